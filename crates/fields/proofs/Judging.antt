@@ -1,0 +1,98 @@
+-- What follows from a value that was judged: each test before it was passed. Assumes nothing.
+use mathlib.Core.Path.{_≡_, refl, sym, _∙_, ap}
+use mathlib.Core.Bool.{Bool, true, false}
+use mathlib.Core.List.{List}
+use Prim.Native.Nat.{ℕ, _+_, _≤_}
+use native.Mathlib.Omega.{arith}
+use borrow.Author.Tests.{ltb-false}
+use lib.Dec.{ltb}
+use lib.ListN.{length}
+use Rattle.fields.specs.Numbers.{truncated, badName}
+use Rattle.fields.specs.Limits.{longestName}
+use Rattle.fields.specs.Judged.{Judged, done, refused, onDone, refusedIf}
+use Rattle.fields.specs.Field.{fieldAt, littleEndian, u16Given, u32Given, u64Given}
+use Rattle.fields.specs.Name.{stringAt, nameAt, stringGiven, nameGiven}
+use Rattle.fields.specs.declared.field.U16Field as half
+use Rattle.fields.specs.declared.field.U32Field as word
+use Rattle.fields.specs.declared.field.U64Field as long
+use Rattle.fields.specs.declared.name.StringField as string
+use Rattle.fields.specs.declared.name.NameField as name
+
+-- a refusal is no value
+pub not-done : {A C : Type 0} {n p : ℕ} {a : A} → refused n p ≡ done a → C
+not-done e = let z : _≡_ {A = ℕ} 0 1 = cc in absurd (omega arith)
+
+-- a value that follows from another
+pub value-before : {A B : Type 0} (j : Judged A) (next : A → Judged B) (b : B) → onDone j next ≡ done b
+    → (a : A) × (j ≡ done a) × (next a ≡ done b)
+value-before (done a) next b e = (a, refl, e)
+value-before (refused n p) next b e = not-done e
+
+-- a test that was passed
+pub passed : {A : Type 0} (test : Bool) (n p : ℕ) (j : Judged A) (a : A) → refusedIf test n p j ≡ done a → (test ≡ false) × (j ≡ done a)
+passed true n p j a e = not-done e
+passed false n p j a e = (refl, e)
+
+-- a field that was read lies within the bytes
+pub field-within : (width : ℕ) (s : List ℕ) (at v : ℕ) → fieldAt width s at ≡ done v → at + width ≤ length s
+unfolding fieldAt
+field-within width s at v e = ltb-false (length s) (at + width) (passed (ltb (length s) (at + width)) truncated at _ v e .0)
+
+-- the answers of the field readers, turned into what was judged
+pub u16-value : (at : ℕ) (r : half.U16Field) (v : ℕ) (j : Judged ℕ) → u16Given at r ≡ j → r ≡ half.the-variants.Value v → j ≡ done v
+unfolding u16Given
+u16-value at r v j e f = sym e ∙ ap (u16Given at) f
+
+pub u16-missing : (at : ℕ) (r : half.U16Field) (j : Judged ℕ) → u16Given at r ≡ j → r ≡ half.the-variants.Missing → j ≡ refused truncated at
+unfolding u16Given
+u16-missing at r j e f = sym e ∙ ap (u16Given at) f
+
+pub u32-value : (at : ℕ) (r : word.U32Field) (v : ℕ) (j : Judged ℕ) → u32Given at r ≡ j → r ≡ word.the-variants.Value v → j ≡ done v
+unfolding u32Given
+u32-value at r v j e f = sym e ∙ ap (u32Given at) f
+
+pub u32-missing : (at : ℕ) (r : word.U32Field) (j : Judged ℕ) → u32Given at r ≡ j → r ≡ word.the-variants.Missing → j ≡ refused truncated at
+unfolding u32Given
+u32-missing at r j e f = sym e ∙ ap (u32Given at) f
+
+pub u64-value : (at : ℕ) (r : long.U64Field) (v : ℕ) (j : Judged ℕ) → u64Given at r ≡ j → r ≡ long.the-variants.Value v → j ≡ done v
+unfolding u64Given
+u64-value at r v j e f = sym e ∙ ap (u64Given at) f
+
+pub u64-missing : (at : ℕ) (r : long.U64Field) (j : Judged ℕ) → u64Given at r ≡ j → r ≡ long.the-variants.Missing → j ≡ refused truncated at
+unfolding u64Given
+u64-missing at r j e f = sym e ∙ ap (u64Given at) f
+
+pub string-size : (at : ℕ) (r : string.StringField) (size : ℕ) (j : Judged ℕ) → stringGiven at r ≡ j → r ≡ string.the-variants.Size size → j ≡ done size
+unfolding stringGiven
+string-size at r size j e f = sym e ∙ ap (stringGiven at) f
+
+pub string-missing : (at : ℕ) (r : string.StringField) (j : Judged ℕ) → stringGiven at r ≡ j → r ≡ string.the-variants.Missing → j ≡ refused truncated at
+unfolding stringGiven
+string-missing at r j e f = sym e ∙ ap (stringGiven at) f
+
+pub name-size : (at : ℕ) (r : name.NameField) (size : ℕ) (j : Judged ℕ) → nameGiven at r ≡ j → r ≡ name.the-variants.Size size → j ≡ done size
+unfolding nameGiven
+name-size at r size j e f = sym e ∙ ap (nameGiven at) f
+
+pub name-missing : (at : ℕ) (r : name.NameField) (j : Judged ℕ) → nameGiven at r ≡ j → r ≡ name.the-variants.Missing → j ≡ refused truncated at
+unfolding nameGiven
+name-missing at r j e f = sym e ∙ ap (nameGiven at) f
+
+pub name-long : (at : ℕ) (r : name.NameField) (j : Judged ℕ) → nameGiven at r ≡ j → r ≡ name.the-variants.Long → j ≡ refused badName at
+unfolding nameGiven
+name-long at r j e f = sym e ∙ ap (nameGiven at) f
+
+-- a name that was read lies within the bytes, and is short enough
+pub name-within : (s : List ℕ) (at size : ℕ) → nameAt s at ≡ done size → (at + (size + 2) ≤ length s) × (size ≤ longestName)
+unfolding nameAt stringAt
+name-within s at size e =
+    let n = value-before (stringAt s at) _ size e in
+    let short = passed (ltb longestName (n .0)) badName at _ size (n .2) in
+    let field = value-before (fieldAt 2 s at) _ (n .0) (n .1) in
+    let whole = passed (ltb (length s) (at + (field .0 + 2))) truncated at _ (n .0) (field .2) in
+    let same : n .0 ≡ size = cc in
+    let same′ : field .0 ≡ n .0 = cc in
+    let w : at + (field .0 + 2) ≤ length s = ltb-false _ _ (whole .0) in
+    let l : n .0 ≤ longestName = ltb-false longestName (n .0) (short .0) in
+    (omega arith, omega arith)

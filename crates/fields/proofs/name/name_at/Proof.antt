@@ -1,0 +1,35 @@
+-- The string is read, and then its length is judged.
+use borrow.Author.Tests.{lt-ltb, le-ltb}
+use Rattle.fields.specs.Name.{nameAt, nameGiven}
+use Rattle.fields.proofs.Judging.{string-size, string-missing}
+use borrow.Author.Needs.{needs}
+use Rattle.fields.proofs.name.name_at.Statement.{statement}
+use Rattle.fields.proofs.name.name_at.Tie as tie
+use Rattle.fields.proofs.name.name_at.Reads as reads
+use Rattle.fields.proofs.name.name_at.Lts as lts
+use Rattle.fields.proofs.name.string_at.Reads as string-at-reads
+
+string-at-requires : tie.Need-string-at-requires
+string-at-requires c κs = search needs
+
+enum-told : tie.Need-enum-told
+enum-told c = search needs
+
+enum-known-size : tie.Need-enum-known-size
+enum-known-size c = search needs
+
+returns : tie.Need-returns
+unfolding nameAt nameGiven
+returns c = simp (string-missing _ _ _ (c .before .before .string-at .ensures) (c .enum-told .given .1))
+
+returns-2 : tie.Need-returns-2
+unfolding nameAt nameGiven
+returns-2 c = simp (string-size _ _ _ _ (c .before .before .before .before .string-at .ensures) (c .before .before .size .given .1), lt-ltb _ _ (c .if1 .taken))
+
+returns-3 : tie.Need-returns-3
+unfolding nameAt nameGiven
+returns-3 c = simp (string-size _ _ _ _ (c .before .before .before .before .string-at .ensures) (c .before .before .size .given .1), le-ltb _ _ (c .if1 .left))
+
+pub name-at-spec : {M : Type 1} → statement M
+name-at-spec =
+    tie.close (tie.spec string-at-requires enum-told enum-known-size returns returns-2 returns-3)

@@ -1,0 +1,5 @@
+pub mod Numbers
+pub mod Limits
+pub mod Judged
+pub mod Field
+pub mod Name

@@ -1,0 +1,13 @@
+-- The limits (01, "Sizes").
+use Prim.Native.Nat.{ℕ}
+
+-- 16 MiB
+abbrev pub largestFile : ℕ
+largestFile = 0x1000000
+
+-- 64 KiB, for the programs
+abbrev pub largestProgramFile : ℕ
+largestProgramFile = 0x10000
+
+abbrev pub longestName : ℕ
+longestName = 255

@@ -1,0 +1,37 @@
+-- Strings and names (01, "Blocks": "name (U16 length, bytes)"). A name is one field: it is judged whole, and then its length (8).
+use Prim.Native.Nat.{ℕ, _+_}
+use mathlib.Core.List.{List, []}
+use lib.Dec.{ltb}
+use lib.ListN.{length}
+use Rattle.fields.specs.Numbers.{truncated, badName}
+use Rattle.fields.specs.Limits.{longestName}
+use Rattle.fields.specs.Judged.{Judged, done, refused, onDone, refusedIf}
+use Rattle.fields.specs.Field.{fieldAt, bytesAt}
+use Rattle.fields.specs.declared.name.StringField as string
+use Rattle.fields.specs.declared.name.NameField as name
+
+-- the number of bytes of the string at `at`
+unfoldable pub stringAt : List ℕ → ℕ → Judged ℕ
+stringAt s at = onDone (fieldAt 2 s at) λ size. refusedIf (ltb (length s) (at + (size + 2))) truncated at (done size)
+
+-- the number of bytes of the name at `at`; "a name above 255 bytes" is 8 (name 256 bytes: 8)
+unfoldable pub nameAt : List ℕ → ℕ → Judged ℕ
+nameAt s at = onDone (stringAt s at) λ size. refusedIf (ltb longestName size) badName at (done size)
+
+-- "A name is handed out as a part of the caller's bytes"; none where it is refused
+abbrev pub nameBytes : List ℕ → ℕ → Judged ℕ → List ℕ
+nameBytes s at (done size) = bytesAt s (at + 2) size
+nameBytes s at (refused n p) = []
+
+unfoldable pub namePart : List ℕ → ℕ → List ℕ
+namePart s at = nameBytes s at (nameAt s at)
+
+-- 01's number, place and value of each answer at `at`
+unfoldable pub stringGiven : ℕ → string.StringField → Judged ℕ
+stringGiven at (string.the-variants.Size size) = done size
+stringGiven at string.the-variants.Missing = refused truncated at
+
+unfoldable pub nameGiven : ℕ → name.NameField → Judged ℕ
+nameGiven at (name.the-variants.Size size) = done size
+nameGiven at name.the-variants.Missing = refused truncated at
+nameGiven at name.the-variants.Long = refused badName at

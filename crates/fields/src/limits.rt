@@ -1,0 +1,10 @@
+// The limits of document 01, "Sizes".
+
+// bytes of a file, of mesh data, of a coder's buffer
+pub const LARGEST_FILE: usize = 16777216;
+
+// bytes of a file that the programs take
+pub const LARGEST_PROGRAM_FILE: usize = 65536;
+
+// bytes of a name
+pub const LONGEST_NAME: usize = 255;

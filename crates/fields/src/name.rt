@@ -1,0 +1,61 @@
+// Strings (a U16 length, then as many bytes), and names, which are strings of at most 255 bytes.
+use crate::field::U16Field;
+use crate::field::bytes_at;
+use crate::field::passes;
+use crate::field::u16_at;
+use crate::limits::LONGEST_NAME;
+ghost use mathlib.Core.Path.{_≡_};
+ghost use Rattle.fields.specs.Name.{stringAt, stringGiven, nameAt, nameGiven, namePart};
+
+pub enum StringField {
+    Size(usize),
+    Missing,
+}
+
+pub enum NameField {
+    Size(usize),
+    Missing,
+    Long,
+}
+
+// The string at `at`: how many bytes follow its length.
+pub fn string_at(s: &[u8], at: usize) -> StringField
+    ensures { λ r. ⌜ stringGiven at r ≡ stringAt (now (s .entry)) at ⌝ }
+{
+    let U16Field::Value(length) = u16_at(s, at) else {
+        return StringField::Missing;
+    };
+    let size = length as usize;
+    if passes(s.len(), at, size + 2) {
+        StringField::Missing
+    } else {
+        StringField::Size(size)
+    }
+}
+
+// The name at `at`: how many bytes follow its length.
+pub fn name_at(s: &[u8], at: usize) -> NameField
+    ensures { λ r. ⌜ nameGiven at r ≡ nameAt (now (s .entry)) at ⌝ }
+{
+    match string_at(s, at) {
+        StringField::Missing => NameField::Missing,
+        StringField::Size(size) => {
+            if LONGEST_NAME < size {
+                NameField::Long
+            } else {
+                NameField::Size(size)
+            }
+        }
+    }
+}
+
+// The bytes of the name at `at`, as a part of `s`; the empty part where there is no name.
+pub fn name_part(s: &[u8], at: usize) -> &[u8]
+    ensures { λ r. ⌜ now r ≡ namePart (now (s .entry)) at ⌝ }
+{
+    match name_at(s, at) {
+        NameField::Missing => &s[..0],
+        NameField::Long => &s[..0],
+        NameField::Size(size) => bytes_at(s, at + 2, size),
+    }
+}
