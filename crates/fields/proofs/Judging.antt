@@ -28,6 +28,11 @@ pub value-before : {A B : Type 0} (j : Judged A) (next : A → Judged B) (b : B)
 value-before (done a) next b e = (a, refl, e)
 value-before (refused n p) next b e = not-done e
 
+-- a refusal where a value would only be handed on
+pub refusal-before : {A B : Type 0} (j : Judged A) (v : A → B) (n p : ℕ) → onDone j (λ a. done (v a)) ≡ refused n p → j ≡ refused n p
+refusal-before (done a) v n p e = not-done (sym e)
+refusal-before (refused m k) v n p e = let a : m ≡ n = cc in let b : k ≡ p = cc in rw (a, b)
+
 -- a test that was passed
 pub passed : {A : Type 0} (test : Bool) (n p : ℕ) (j : Judged A) (a : A) → refusedIf test n p j ≡ done a → (test ≡ false) × (j ≡ done a)
 passed true n p j a e = not-done e

@@ -30,9 +30,11 @@ pick false a b = b
 abbrev pub refusedIf : {A : Type 0} → Bool → ℕ → ℕ → Judged A → Judged A
 refusedIf test n p next = pick test (refused n p) next
 
--- a result goes to the start of a lent buffer, and what stands past it stays; without room it is 12, and nothing changes
+-- a result that a lent buffer can't hold is 12, place 0
 abbrev pub roomFor : {A : Type 0} → List ℕ → List ℕ → A → Judged A
 roomFor result buffer value = refusedIf (ltb (length buffer) (length result)) noRoom 0 (done value)
 
-unfoldable pub placed : List ℕ → List ℕ → List ℕ
-placed result buffer = pick (ltb (length buffer) (length result)) buffer (result ++ drop (length result) buffer)
+-- a lent buffer after an answer: with the result at its start, and what stood past it; a refusal leaves it as it was
+abbrev pub bufferAfter : {A : Type 0} → Judged A → List ℕ → List ℕ → List ℕ
+bufferAfter (done _) result buffer = result ++ drop (length result) buffer
+bufferAfter (refused n p) result buffer = buffer

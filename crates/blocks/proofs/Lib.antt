@@ -1,0 +1,9 @@
+-- Laws that belong to no one function.
+pub mod Values
+pub mod Members
+pub mod Zeros
+pub mod Fits
+pub mod Lines
+pub mod Stores
+pub mod Turns
+pub mod Files

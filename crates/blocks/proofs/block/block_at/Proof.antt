@@ -1,0 +1,37 @@
+-- The leading numbers, and then the rest.
+use mathlib.Core.Path.{sym, _∙_, ap}
+use Rattle.blocks.specs.Block.{blockAt}
+use Rattle.blocks.specs.Head.{headGiven}
+use Rattle.blocks.proofs.Fits.{head-within}
+use borrow.Author.Needs.{needs}
+use Rattle.blocks.proofs.block.block_at.Statement.{statement}
+use Rattle.blocks.proofs.block.block_at.Tie as tie
+use Rattle.blocks.proofs.block.block_at.Reads as reads
+use Rattle.blocks.proofs.block.block_at.Lts as lts
+use Rattle.blocks.proofs.block.judged.Reads as judged-reads
+use Rattle.blocks.proofs.head.head_at.Reads as head-at-reads
+
+head-at-requires : tie.Need-head-at-requires
+head-at-requires c κs = search needs
+
+enum-known-e : tie.Need-enum-known-e
+enum-known-e c = search needs
+
+enum-known-head : tie.Need-enum-known-head
+enum-known-head c = search needs
+
+judged-requires : tie.Need-judged-requires
+judged-requires c κs = (head-within _ _ _ (sym (c .before .before .before .head-at .ensures) ∙ ap headGiven (c .before .head .given .1)), c .before .before .before .before .before .pre)
+
+returns : tie.Need-returns
+unfolding blockAt
+returns c = simp (sym (c .before .before .before .head-at .ensures) ∙ ap headGiven (c .before .e .given .1))
+
+returns-2 : tie.Need-returns-2
+unfolding blockAt
+returns-2 c = simp (sym (c .before .before .before .before .head-at .ensures) ∙ ap headGiven (c .before .before .head .given .1)) (c .judged .ensures)
+
+pub block-at-spec : {M : Type 1} → statement M
+block-at-spec =
+    tie.close
+    (tie.spec head-at-requires enum-known-e enum-known-head judged-requires returns returns-2)

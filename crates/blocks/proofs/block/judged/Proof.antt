@@ -1,0 +1,64 @@
+-- The place is judged, then the room, then the contents.
+use mathlib.Core.Path.{sym, _∙_, ap}
+use borrow.Author.Tests.{eq-eqb, ne-eqb}
+use Rattle.blocks.specs.Block.{judgedAt}
+use Rattle.blocks.specs.Padding.{checkGiven}
+use Rattle.blocks.proofs.Fits.{extent-fits, room-within}
+use borrow.Author.Needs.{needs}
+use Rattle.blocks.proofs.block.judged.Statement.{statement}
+use Rattle.blocks.proofs.block.judged.Tie as tie
+use Rattle.blocks.proofs.block.judged.Reads as reads
+use Rattle.blocks.proofs.block.judged.Lts as lts
+use Rattle.blocks.proofs.block.standing.Reads as standing-reads
+use Rattle.blocks.proofs.block.with_contents.Reads as with-contents-reads
+use Rattle.blocks.proofs.head.extent_of.Reads as extent-of-reads
+use Rattle.blocks.proofs.head.room.Reads as room-reads
+use Rattle.blocks.proofs.kind.kind_of.Reads as kind-of-reads
+
+kind-of-requires : tie.Need-kind-of-requires
+kind-of-requires c κs = search needs
+
+standing-requires : tie.Need-standing-requires
+standing-requires c κs = search needs
+
+returns : tie.Need-returns
+unfolding judgedAt
+returns c = simp (sym (c .before .before .kind-of .ensures), sym (c .before .standing .ensures), ne-eqb _ _ (c .if1 .taken))
+
+extent-of-requires : tie.Need-extent-of-requires
+extent-of-requires c κs = search needs
+
+room-requires : tie.Need-room-requires
+room-requires c κs = search needs
+
+enum-known-e : tie.Need-enum-known-e
+enum-known-e c = search needs
+
+enum-told : tie.Need-enum-told
+enum-told c = search needs
+
+with-contents-requires : tie.Need-with-contents-requires
+with-contents-requires c κs = (extent-fits _ _ _ (c .before .before .before .extent-of .ensures) .starts, room-within _ _ _ _ (sym (c .before .before .room .ensures) ∙ ap checkGiven (c .enum-told .given .1)) .0)
+
+returns-2 : tie.Need-returns-2
+unfolding judgedAt
+returns-2 c = simp (sym (c .before .before .before .before .before .before .before .kind-of .ensures), sym (c .before .before .before .before .before .before .standing .ensures), eq-eqb _ _ (c .before .before .before .before .before .if1 .left), sym (c .before .before .before .before .extent-of .ensures), sym (c .before .before .before .room .ensures) ∙ ap checkGiven (c .before .e .given .1))
+
+returns-3 : tie.Need-returns-3
+unfolding judgedAt
+returns-3 c = simp (sym (c .before .before .before .before .before .before .before .kind-of .ensures), sym (c .before .before .before .before .before .before .standing .ensures), eq-eqb _ _ (c .before .before .before .before .before .if1 .left), sym (c .before .before .before .before .extent-of .ensures), sym (c .before .before .before .room .ensures) ∙ ap checkGiven (c .before .enum-told .given .1)) (c .with-contents .ensures)
+
+pub judged-spec : {M : Type 1} → statement M
+judged-spec =
+    tie.close
+    (tie.spec
+    kind-of-requires
+    standing-requires
+    returns
+    extent-of-requires
+    room-requires
+    enum-known-e
+    enum-told
+    with-contents-requires
+    returns-2
+    returns-3)

@@ -1,0 +1,17 @@
+-- The test on the number decides.
+use borrow.Author.Tests.{eq-eqb, ne-eqb}
+use Rattle.blocks.specs.Chain.{inChain}
+use borrow.Author.Needs.{needs}
+use Rattle.blocks.proofs.chain.in_chain.Statement.{statement}
+use Rattle.blocks.proofs.chain.in_chain.Tie as tie
+use Rattle.blocks.proofs.chain.in_chain.Reads as reads
+use Rattle.blocks.proofs.chain.in_chain.Lts as lts
+
+returns : tie.Need-returns
+returns c = simp (eq-eqb _ _ (c .if1 .taken))
+
+returns-2 : tie.Need-returns-2
+returns-2 c = simp (ne-eqb _ _ (c .if1 .left))
+
+pub in-chain-spec : {M : Type 1} → statement M
+in-chain-spec = tie.close (tie.spec returns returns-2)

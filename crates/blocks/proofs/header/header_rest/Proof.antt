@@ -1,0 +1,61 @@
+-- The room, and then the paddings.
+use mathlib.Core.Path.{sym, _∙_, ap}
+use Rattle.blocks.specs.Header.{restOf}
+use Rattle.blocks.specs.Padding.{checkGiven}
+use Rattle.blocks.proofs.Fits.{room-within}
+use borrow.Author.Needs.{needs}
+use Rattle.blocks.proofs.header.header_rest.Statement.{statement}
+use Rattle.blocks.proofs.header.header_rest.Tie as tie
+use Rattle.blocks.proofs.header.header_rest.Reads as reads
+use Rattle.blocks.proofs.header.header_rest.Lts as lts
+use Rattle.blocks.proofs.head.extent_of.Reads as extent-of-reads
+use Rattle.blocks.proofs.head.paddings.Reads as paddings-reads
+use Rattle.blocks.proofs.head.room.Reads as room-reads
+
+extent-of-requires : tie.Need-extent-of-requires
+extent-of-requires c κs = search needs
+
+room-requires : tie.Need-room-requires
+room-requires c κs = search needs
+
+enum-known-e : tie.Need-enum-known-e
+enum-known-e c = search needs
+
+enum-told : tie.Need-enum-told
+enum-told c = search needs
+
+paddings-requires : tie.Need-paddings-requires
+paddings-requires c κs = let w = room-within _ _ _ _ (sym (c .before .before .room .ensures) ∙ ap checkGiven (c .enum-told .given .1)) in (w .1, w .2)
+
+enum-known-e-2 : tie.Need-enum-known-e-2
+enum-known-e-2 c = search needs
+
+enum-told-2 : tie.Need-enum-told-2
+enum-told-2 c = search needs
+
+returns : tie.Need-returns
+unfolding restOf
+returns c = simp (sym (c .before .before .before .before .extent-of .ensures), sym (c .before .before .before .room .ensures) ∙ ap checkGiven (c .before .e .given .1))
+
+returns-2 : tie.Need-returns-2
+unfolding restOf
+returns-2 c = simp (sym (c .before .before .before .before .before .before .before .extent-of .ensures), sym (c .before .before .before .before .before .before .room .ensures) ∙ ap checkGiven (c .before .before .before .before .enum-told .given .1), sym (c .before .before .before .paddings .ensures) ∙ ap checkGiven (c .before .e2 .given .1))
+
+returns-3 : tie.Need-returns-3
+unfolding restOf
+returns-3 c = simp (sym (c .before .before .before .before .before .before .extent-of .ensures), sym (c .before .before .before .before .before .room .ensures) ∙ ap checkGiven (c .before .before .before .enum-told .given .1), sym (c .before .before .paddings .ensures) ∙ ap checkGiven (c .enum-told2 .given .1))
+
+pub header-rest-spec : {M : Type 1} → statement M
+header-rest-spec =
+    tie.close
+    (tie.spec
+    extent-of-requires
+    room-requires
+    enum-known-e
+    enum-told
+    paddings-requires
+    enum-known-e-2
+    enum-told-2
+    returns
+    returns-2
+    returns-3)

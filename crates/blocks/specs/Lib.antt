@@ -1,0 +1,10 @@
+pub mod Padding
+pub mod Kind
+pub mod Head
+pub mod Chain
+pub mod Block
+pub mod Header
+pub mod Walk
+pub mod Told
+pub mod File
+pub mod Parts
