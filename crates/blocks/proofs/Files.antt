@@ -99,7 +99,7 @@ bytesIn (done told) = told .bytes
 bytesIn (refused n p) = 0
 
 -- a result at the start of a buffer that holds it
-at-start : (result buffer : List ℕ) → length result ≤ length buffer → sets buffer 0 result ≡ result ++ drop (length result) buffer
+pub at-start : (result buffer : List ℕ) → length result ≤ length buffer → sets buffer 0 result ≡ result ++ drop (length result) buffer
 at-start result buffer h =
     let z : 0 + length result ≡ length result = omega arith in
     let w : 0 + length result ≤ length buffer = omega arith in
@@ -151,7 +151,7 @@ module _ (s text : List ℕ) where
   unfolding linesIn
   lines-refused n p e = (rw e, rw e)
 
-  byte-count : (told : Told) → linesOf s ≡ done told → length (fileLines s) ≡ told .bytes
+  pub byte-count : (told : Told) → linesOf s ≡ done told → length (fileLines s) ≡ told .bytes
   unfolding linesOf bytesIn
   byte-count told e = ap (λ (t : Judged Told). bytesIn t) (value-before (fileOf s .ending) _ told e .2)
 
@@ -160,6 +160,11 @@ module _ (s text : List ℕ) where
   lines-short told e h =
       let t = lt-ltb (length text) (length (fileLines s)) (omega (arith, byte-count told e)) in
       (rw (e, t), rw (e, t))
+
+  -- lines that fit are taken
+  pub lines-fit : (told : Told) → linesOf s ≡ done told → told .bytes ≤ length text → linesIn s text ≡ done told
+  unfolding linesIn
+  lines-fit told e h = rw (e, le-ltb (length text) (length (fileLines s)) (omega (arith, byte-count told e)))
 
   pub lines-done : (told : Told) (text′ : List ℕ) → linesOf s ≡ done told → told .bytes ≤ length text → text′ ≡ sets text 0 (fileLines s) → Texts (done told) text′
   unfolding linesIn

@@ -7,7 +7,7 @@ use native.Mathlib.Omega.{arith}
 use lib.ListN.{length, length-append}
 use Rattle.text.specs.Digits.{decimalField, hexField}
 use lib.Seq.{sets}
-use Rattle.text.proofs.Stores.{sets-append}
+use Rattle.text.proofs.Stores.{stores-on}
 use Rattle.text.proofs.Widths.{decimal-length, hex-length}
 use Rattle.blocks.specs.Told.{lineOf, bytesOf, blockWord, tab, lineFeed}
 use Rattle.blocks.specs.declared.tell.Row.{Row}
@@ -22,10 +22,6 @@ pub bytes-short : (lines : Bool) (row : Row) → length (bytesOf lines row) ≤ 
 bytes-short true row =
     omega (arith, line-length row, decimal-length (row .offset) tab, hex-length (row .number) tab, decimal-length (row .«data_size») tab, decimal-length (row .«meta_size») tab, decimal-length (row .depth) lineFeed)
 bytes-short false row = omega arith
-
--- what is stored after the first part is stored with it
-stores-on : (t₀ t₁ : List ℕ) (at : ℕ) (a b : List ℕ) (n : ℕ) → t₁ ≡ sets t₀ at a → n ≡ length a → sets t₁ (at + n) b ≡ sets t₀ at (a ++ b)
-stores-on t₀ t₁ at a b n e l = rw (e, l) (sym (sets-append t₀ at a b))
 
 module _ (row : Row) (at r₁ r₂ r₃ r₄ r₅ : ℕ) (t₀ t₁ t₂ t₃ t₄ t₅ t₆ : List ℕ) where
   pub line-stored : t₁ ≡ sets t₀ at blockWord → r₁ ≡ 6

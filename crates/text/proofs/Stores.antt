@@ -1,5 +1,5 @@
 -- Bytes stored one after the other. Assumes nothing.
-use mathlib.Core.Path.{_≡_, refl, ap, _∙_}
+use mathlib.Core.Path.{_≡_, refl, ap, sym, _∙_}
 use mathlib.Core.List.{List, [], _∷_, _++_}
 use Prim.Native.Nat.{ℕ, suc, _+_, _≤_, _<_}
 use native.Mathlib.Omega.{arith}
@@ -12,6 +12,10 @@ sets-append t i [] b = let e : i + 0 ≡ i = omega arith in rw e
 sets-append t i (x ∷ a) b =
     let e : i + suc (length a) ≡ suc i + length a = omega arith in
     rw e (sets-append (set t i x) (suc i) a b)
+
+-- what is stored after the first part is stored with it
+pub stores-on : (t₀ t₁ : List ℕ) (at : ℕ) (a b : List ℕ) (n : ℕ) → t₁ ≡ sets t₀ at a → n ≡ length a → sets t₁ (at + n) b ≡ sets t₀ at (a ++ b)
+stores-on t₀ t₁ at a b n e l = rw (e, l) (sym (sets-append t₀ at a b))
 
 -- what is stored keeps the length
 pub stored-length : (u t : List ℕ) (i : ℕ) (a : List ℕ) → u ≡ sets t i a → length u ≡ length t
