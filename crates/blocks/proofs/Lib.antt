@@ -7,3 +7,4 @@ pub mod Lines
 pub mod Stores
 pub mod Turns
 pub mod Files
+pub mod Enough
