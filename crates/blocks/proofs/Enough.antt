@@ -12,7 +12,7 @@ use Rattle.blocks.specs.Kind.{isContinuation}
 use Rattle.blocks.specs.Block.{levels, blockAt}
 use Rattle.blocks.specs.Walk.{fileEnds, blocksOf, walkOf}
 use Rattle.blocks.specs.declared.block.Block.{Block}
-use Rattle.blocks.proofs.Fits.{BlockFits, block-fits}
+use Rattle.blocks.proofs.Fits.{block-fits}
 
 module _ (s : List ℕ) (remaining n m at : ℕ) (continued : Bool)
     (later : (at′ : ℕ) (continued′ : Bool) → at < at′ → at′ ≤ length s → walkOf remaining n s at′ continued′ ≡ walkOf remaining m s at′ continued′) where

@@ -1,25 +1,26 @@
 -- The blocks of a whole file: the first block, what is told after it, and the buffers that hold the result. Assumes nothing.
-use mathlib.Core.Path.{_≡_, refl, ap, sym, _∙_, subst}
+use mathlib.Core.Path.{_≡_, refl, ap, _∙_}
 use mathlib.Core.Bool.{Bool, true, false}
-use mathlib.Core.List.{List, [], _∷_, _++_}
+use mathlib.Core.List.{List, _++_}
 use Prim.Native.Nat.{ℕ, _+_, _*_, _<_, _≤_}
 use native.Mathlib.Omega.{arith}
 use borrow.Author.Tests.{ltb-false, lt-ltb, le-ltb}
 use lib.Dec.{eqb, ltb}
-use lib.ListN.{length, take, drop}
+use lib.ListN.{length, drop}
 use lib.Seq.{sets, sets-eq}
 use Rattle.fields.specs.Numbers.{truncated, overLimit, badHeader, noRoom}
 use Rattle.fields.specs.Limits.{largestFile}
-use Rattle.fields.specs.Judged.{Judged, done, refused, onDone, bufferAfter}
+use Rattle.fields.specs.Judged.{Judged, done, refused, bufferAfter}
 use Rattle.fields.specs.declared.numbers.Refusal.{Refusal}
 use Rattle.fields.proofs.Judging.{value-before, refusal-before, passed}
 use Rattle.blocks.specs.Kind.{headerType}
 use Rattle.blocks.specs.Head.{headAt, extentOf, roomOf, paddingsOf}
 use Rattle.blocks.specs.Header.{headerData, versionOf, fieldsOf, restOf, judgedOf, firstOf}
 use Rattle.blocks.specs.Block.{levels}
-use Rattle.blocks.specs.Walk.{Outcome, rowOf, walkOf, ends}
-use Rattle.blocks.specs.Told.{rowWidth, rowWords, bytesOf, lineOf, allOf, toldWith, Stored, stored, answerOf, ToldFits}
-use Rattle.blocks.specs.File.{afterFirst, fileOf, noneTold, toldOf, fileWords, walkIn, fileLines, linesOf, linesIn}
+use Rattle.blocks.specs.Walk.{rowOf, walkOf, ends}
+use Rattle.blocks.specs.Told.{rowWidth, rowWords, allOf}
+use Rattle.blocks.specs.Inside.{bytesOf, toldWith, stored, answerOf, ToldFits, noneTold, toldOf}
+use Rattle.blocks.specs.File.{afterFirst, fileOf, fileWords, walkIn, fileLines, linesOf, linesIn}
 use Rattle.blocks.specs.declared.head.Head.{Head}
 use Rattle.blocks.specs.declared.header.First.{First}
 use Rattle.blocks.specs.declared.tell.Row.{Row}

@@ -1,5 +1,5 @@
 -- What was found lies within the bytes: leading numbers, extents, a chain's fields, a whole block. Assumes nothing.
-use mathlib.Core.Path.{_≡_, refl, sym, _∙_, ap, subst}
+use mathlib.Core.Path.{_≡_, refl, sym, subst}
 use mathlib.Core.Bool.{Bool, true, false}
 use mathlib.Core.List.{List}
 use Prim.Native.Nat.{ℕ, zero, suc, _+_, _-_, _<_, _≤_}
@@ -10,11 +10,11 @@ use lib.ListN.{length, take}
 use lib.Seq.{length-take-le}
 use Rattle.fields.specs.Numbers.{truncated, badChain, overLimit}
 use Rattle.fields.specs.Limits.{largestFile}
-use Rattle.fields.specs.Judged.{Judged, done, refused, onDone, refusedIf, pick}
+use Rattle.fields.specs.Judged.{Judged, done, refused, pick}
 use Rattle.fields.specs.Field.{fieldAt}
 use Rattle.fields.specs.Name.{nameAt}
-use Rattle.fields.proofs.Judging.{not-done, value-before, passed, field-within, name-within}
-use Rattle.blocks.specs.Padding.{fine, alignedTo, zerosOf}
+use Rattle.fields.proofs.Judging.{not-done, value-before, passed, field-within}
+use Rattle.blocks.specs.Padding.{alignedTo, zerosOf}
 use Rattle.blocks.specs.Kind.{kindOf, isChain}
 use Rattle.blocks.specs.Head.{headAt, extentOf, roomOf}
 use Rattle.blocks.specs.Chain.{inChain, countAt, fieldsAfterName, chainAt}

@@ -1,7 +1,7 @@
 -- A block's line: its length, and its fields stored one after the other. Assumes nothing.
-use mathlib.Core.Path.{_≡_, refl, ap, sym, _∙_}
+use mathlib.Core.Path.{_≡_, ap, sym, _∙_}
 use mathlib.Core.Bool.{Bool, true, false}
-use mathlib.Core.List.{List, [], _∷_, _++_, append-assoc}
+use mathlib.Core.List.{List, _++_, append-assoc}
 use Prim.Native.Nat.{ℕ, _+_, _≤_}
 use native.Mathlib.Omega.{arith}
 use lib.ListN.{length, length-append}
@@ -9,7 +9,8 @@ use Rattle.text.specs.Digits.{decimalField, hexField}
 use lib.Seq.{sets}
 use Rattle.text.proofs.Stores.{stores-on}
 use Rattle.text.proofs.Widths.{decimal-length, hex-length}
-use Rattle.blocks.specs.Told.{lineOf, bytesOf, blockWord, tab, lineFeed}
+use Rattle.blocks.specs.Told.{lineOf, blockWord, tab, lineFeed}
+use Rattle.blocks.specs.Inside.{bytesOf}
 use Rattle.blocks.specs.declared.tell.Row.{Row}
 
 pub line-length : (row : Row) → length (lineOf row) ≡ 6 + (length (decimalField (row .offset) tab) + (length (hexField (row .number) tab)

@@ -1,17 +1,18 @@
 -- Words stored one after the other, and the rows of an outcome told one part after the other. Assumes nothing.
-use mathlib.Core.Path.{_≡_, refl, ap, sym, _∙_, subst}
+use mathlib.Core.Path.{_≡_, refl, ap, sym, _∙_}
 use mathlib.Core.Bool.{Bool}
 use mathlib.Core.List.{List, [], _∷_, _++_, append-assoc, append-nil}
-use Prim.Native.Nat.{ℕ, zero, suc, _+_, _*_}
+use Prim.Native.Nat.{ℕ, suc, _+_, _*_}
 use native.Mathlib.Omega.{arith}
 use lib.ListN.{length, length-append}
 use lib.Seq.{sets}
 use Rattle.fields.specs.Judged.{Judged, done, refused, onDone}
 use Rattle.fields.proofs.Judging.{value-before, refusal-before}
 use Rattle.text.proofs.Stores.{sets-append}
-use Rattle.blocks.specs.Chain.{inChain, chainNumber}
-use Rattle.blocks.specs.Walk.{Outcome, tells, ends, andThen, inChainOutcome}
-use Rattle.blocks.specs.Told.{rowWidth, rowWords, bytesOf, allOf, toldWith, Stored, stored, answerOf}
+use Rattle.blocks.specs.Chain.{inChain}
+use Rattle.blocks.specs.Walk.{Outcome, tells, andThen, inChainOutcome}
+use Rattle.blocks.specs.Told.{rowWidth, rowWords, allOf}
+use Rattle.blocks.specs.Inside.{bytesOf, toldWith, Stored, stored, answerOf}
 use Rattle.blocks.specs.declared.tell.Row.{Row}
 use Rattle.blocks.specs.declared.tell.Told.{Told}
 

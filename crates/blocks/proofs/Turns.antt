@@ -4,11 +4,11 @@ use mathlib.Core.Bool.{Bool, true, false}
 use mathlib.Core.List.{List, []}
 use Prim.Native.Nat.{ℕ, zero, suc, _+_, _-_, _*_, _<_, _≤_}
 use native.Mathlib.Omega.{arith}
-use borrow.Author.Tests.{eq-eqb, ne-eqb}
+use lib.Dec.{eqb}
 use lib.ListN.{length, take}
 use lib.Seq.{sets}
 use Rattle.fields.specs.Numbers.{badChain}
-use Rattle.fields.specs.Judged.{Judged, done, refused}
+use Rattle.fields.specs.Judged.{done, refused, pick}
 use Rattle.fields.specs.declared.numbers.Refusal.{Refusal}
 use Rattle.fields.proofs.Judging.{not-done}
 use Rattle.blocks.specs.Kind.{isChain, isContinuation}
@@ -16,7 +16,8 @@ use Rattle.blocks.specs.Head.{paddingsOf}
 use Rattle.blocks.specs.Chain.{inChain}
 use Rattle.blocks.specs.Block.{levels, blockAt}
 use Rattle.blocks.specs.Walk.{Outcome, tells, ends, andThen, rowOf, fileEnds, blocksOf, insideOf, walkOf, inChainOutcome}
-use Rattle.blocks.specs.Told.{rowWidth, rowWords, bytesOf, allOf, toldWith, Stored, stored, answerOf, walkedGiven, ToldFits}
+use Rattle.blocks.specs.Told.{rowWidth, rowWords, allOf}
+use Rattle.blocks.specs.Inside.{bytesOf, toldWith, Stored, stored, answerOf, walkedGiven, filledOf, ToldFits}
 use Rattle.blocks.specs.declared.block.Block.{Block}
 use Rattle.blocks.specs.declared.tell.Row.{Row}
 use Rattle.blocks.specs.declared.tell.Told.{Told}
@@ -80,13 +81,20 @@ module _ (s : List ℕ) (remaining : ℕ) (lines : Bool) (table text : List ℕ)
       → still (walkOf remaining left s at continued) ≡ stored table₁ text₁ told₁ lines (andThen (insideOf remaining s b) (restOf remaining left s b))
   block-told b row table₁ text₁ told₁ h e f r n t x = block-found b h e f ∙ rw (n, t, x, r)
 
-  pub all-walked : left ≤ 0 → at ≡ length s → still (walkOf remaining left s at continued) ≡ still (tells [])
+  -- all blocks are walked, and the last ends where the bytes end, or it does not
+  last-end : left ≤ 0 → walkOf remaining left s at continued ≡ pick (eqb at (length s)) (tells []) (ends (refused badChain at))
   unfolding blocksOf
-  all-walked h e = let l : left ≡ 0 = omega arith in rw (l, blocksOf, eq-eqb at (length s) e)
+  last-end h = let l : left ≡ 0 = omega arith in rw l
 
-  pub not-filled : left ≤ 0 → (at ≡ length s → ⊥) → still (walkOf remaining left s at continued) ≡ still (ends (refused badChain at))
-  unfolding blocksOf
-  not-filled h e = let l : left ≡ 0 = omega arith in rw (l, blocksOf, ne-eqb at (length s) e)
+  pub all-walked : (r : Walked) → left ≤ 0 → walkedGiven r ≡ filledOf at (length s) told → Answered (still (walkOf remaining left s at continued)) r table text
+  unfolding answerOf stored allOf
+  all-walked r h e = rw (last-end h) (by (eqb at (length s)) e) where
+    by : (t : Bool) → walkedGiven r ≡ pick t (done told) (refused badChain at) → Answered (still (pick t (tells []) (ends (refused badChain at)))) r table text
+    by true e =
+        let b : told .blocks + 0 ≡ told .blocks = omega arith in
+        let y : told .bytes + 0 ≡ told .bytes = omega arith in
+        record { answer = e ∙ rw (b, y); in-table = refl; in-text = refl }
+    by false e = record { answer = e; in-table = refl; in-text = refl }
 
 -- what is still to be told, at a block's contents and after them
 module _ (s : List ℕ) (remaining : ℕ) (lines : Bool) (b : Block) (table text : List ℕ) (told : Told) (rest : Outcome) where
@@ -160,6 +168,14 @@ pub told-short : (lines : Bool) (row : Row) (at : ℕ) (told told₁ : Told) →
     → Short (at + 12) told₁
 told-short lines row at told told₁ e b y =
     subst (Short (at + 12)) (sym e) (record { blocks = omega arith; bytes = omega (arith, bytes-short lines row) })
+
+-- no more is told than before
+pub filled-fits : (len at : ℕ) (r : Walked) (told : Told) → walkedGiven r ≡ filledOf at len told → told .blocks ≤ len → told .bytes ≤ 9 * len → ToldFits len r
+filled-fits len at (Refused x) told e b y = tt
+filled-fits len at (Done told′) told e b y = by (eqb at len) e where
+  by : (t : Bool) → done told′ ≡ pick t (done told) (refused badChain at) → (told′ .blocks ≤ len) × (told′ .bytes ≤ 9 * len)
+  by true e = let same : told ≡ told′ = cc in (rw same at b, rw same at y)
+  by false e = not-done (sym e)
 
 -- a refusal tells nothing
 pub refused-fits : (len : ℕ) (r : Walked) (n p : ℕ) → walkedGiven r ≡ refused n p → ToldFits len r

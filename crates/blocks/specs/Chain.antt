@@ -8,7 +8,6 @@ use Rattle.fields.specs.Numbers.{truncated, badChain}
 use Rattle.fields.specs.Judged.{Judged, done, refused, refusedBy, onDone, refusedIf, pick}
 use Rattle.fields.specs.Field.{fieldAt}
 use Rattle.fields.specs.Name.{nameAt}
-use Rattle.fields.specs.declared.numbers.Refusal.{Refusal}
 use Rattle.blocks.specs.Padding.{alignedTo, zerosOf}
 use Rattle.blocks.specs.declared.chain.Run.{Run}
 use Rattle.blocks.specs.declared.chain.RunAnswer.{RunAnswer}
@@ -47,7 +46,3 @@ chainAt s at = onDone (nameAt s at) λ size. fieldsAfterName s at size
 abbrev pub runGiven : RunAnswer → Judged Run
 runGiven (Found run) = done run
 runGiven (Refused e) = refusedBy e
-
--- inside the crate: the refusal handed on
-abbrev pub refusalInChain : Refusal → Refusal
-refusalInChain e = record { number = chainNumber (e .number); place = e .place }

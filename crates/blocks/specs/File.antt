@@ -1,13 +1,13 @@
 -- The blocks of a whole file (01, "Blocks"): the header first, then the blocks at the top. "The block walk .. judge[s] 12 last."
 use Prim.Native.Nat.{ℕ}
 use mathlib.Core.List.{List, [], _∷_}
-use mathlib.Core.Bool.{Bool, false}
+use mathlib.Core.Bool.{false}
 use lib.ListN.{length}
 use Rattle.fields.specs.Judged.{Judged, done, refusedBy, onDone, roomFor}
 use Rattle.blocks.specs.Block.{levels}
 use Rattle.blocks.specs.Header.{firstOf}
 use Rattle.blocks.specs.Walk.{Outcome, tells, onJudged, andThen, rowOf, walkOf}
-use Rattle.blocks.specs.Told.{rowWords, lineOf, allOf, bytesOf}
+use Rattle.blocks.specs.Told.{rowWords, lineOf, allOf}
 use Rattle.blocks.specs.declared.header.First.{First}
 use Rattle.blocks.specs.declared.tell.Told.{Told}
 use Rattle.blocks.specs.declared.file.Walk as walk
@@ -47,12 +47,3 @@ walkGiven (walk.the-variants.Refused e) = refusedBy e
 abbrev pub linesGiven : lines.Lines → Judged Told
 linesGiven (lines.the-variants.Done blocks bytes) = done (record { blocks = blocks; bytes = bytes })
 linesGiven (lines.the-variants.Refused e) = refusedBy e
-
--- Inside the crate: nothing told yet, and what a whole file tells.
-abbrev pub noneTold : Told
-noneTold = record { blocks = 0; bytes = 0 }
-
-unfoldable pub toldOf : Bool → List ℕ → Judged Told
-toldOf lines s =
-    onDone (fileOf s .ending) λ _.
-    done (record { blocks = length (fileOf s .rows); bytes = length (allOf (bytesOf lines) (fileOf s .rows)) })

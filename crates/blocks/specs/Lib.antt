@@ -8,3 +8,4 @@ pub mod Walk
 pub mod Told
 pub mod File
 pub mod Parts
+pub mod Inside

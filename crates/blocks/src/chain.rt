@@ -16,7 +16,8 @@ ghost use lib.ListN.{length};
 ghost use Rattle.fields.specs.Limits.{longestName};
 ghost use Rattle.fields.specs.Numbers.{truncated};
 ghost use Rattle.fields.specs.Judged.{refused};
-ghost use Rattle.blocks.specs.Chain.{countAt, fieldsAfterName, chainAt, runGiven, refusalInChain};
+ghost use Rattle.blocks.specs.Chain.{countAt, fieldsAfterName, chainAt, runGiven};
+ghost use Rattle.blocks.specs.Inside.{refusalInChain};
 
 // Blocks that stand one after the other: where the first starts, and how many they are.
 pub struct Run {

@@ -17,8 +17,9 @@ ghost use Prim.Native.Nat.{_≤_};
 ghost use lib.ListN.{length};
 ghost use Rattle.fields.specs.Limits.{largestFile};
 ghost use Rattle.fields.specs.Judged.{bufferAfter};
-ghost use Rattle.blocks.specs.Told.{stored, walkedGiven, answerOf, ToldFits};
-ghost use Rattle.blocks.specs.File.{afterFirst, fileOf, noneTold, toldOf, fileWords, walkIn, walkGiven, fileLines, linesOf, linesIn, linesGiven};
+ghost use Rattle.blocks.specs.Inside.{restStored, fileStored, walkedGiven, answerOf, ToldFits};
+ghost use Rattle.blocks.specs.File.{fileWords, walkIn, walkGiven, fileLines, linesOf, linesIn, linesGiven};
+ghost use Rattle.blocks.specs.Inside.{toldOf};
 
 // The answer to a walk: so many blocks.
 pub enum Walk {
@@ -35,9 +36,9 @@ pub enum Lines {
 // Walks the blocks of a file from its first block on, and tells them as far as there is room.
 fn walk_after(file: &[u8], first: First, table: &mut [u32], text: &mut [u8], lines: bool) -> Walked
     requires { ⌜ (12 ≤ first .next) × (first .next ≤ length (now file)) × (length (now file) ≤ largestFile) ⌝ }
-    ensures { λ r. ⌜ walkedGiven r ≡ answerOf (stored (now (table .entry)) (now (text .entry)) noneTold lines (afterFirst (now (file .entry)) first)) ⌝ }
-    ensures { λ r. ⌜ now (table .exit) ≡ stored (now (table .entry)) (now (text .entry)) noneTold lines (afterFirst (now (file .entry)) first) .table ⌝ }
-    ensures { λ r. ⌜ now (text .exit) ≡ stored (now (table .entry)) (now (text .entry)) noneTold lines (afterFirst (now (file .entry)) first) .text ⌝ }
+    ensures { λ r. ⌜ walkedGiven r ≡ answerOf (restStored (now (table .entry)) (now (text .entry)) lines (now (file .entry)) first) ⌝ }
+    ensures { λ r. ⌜ now (table .exit) ≡ restStored (now (table .entry)) (now (text .entry)) lines (now (file .entry)) first .table ⌝ }
+    ensures { λ r. ⌜ now (text .exit) ≡ restStored (now (table .entry)) (now (text .entry)) lines (now (file .entry)) first .text ⌝ }
     ensures { λ r. ⌜ ToldFits largestFile r ⌝ }
 {
     let none = Told {
@@ -54,9 +55,9 @@ fn walk_after(file: &[u8], first: First, table: &mut [u32], text: &mut [u8], lin
 
 // Walks a file, and tells its blocks as far as there is room.
 fn walk_file(file: &[u8], table: &mut [u32], text: &mut [u8], lines: bool) -> Walked
-    ensures { λ r. ⌜ walkedGiven r ≡ answerOf (stored (now (table .entry)) (now (text .entry)) noneTold lines (fileOf (now (file .entry)))) ⌝ }
-    ensures { λ r. ⌜ now (table .exit) ≡ stored (now (table .entry)) (now (text .entry)) noneTold lines (fileOf (now (file .entry))) .table ⌝ }
-    ensures { λ r. ⌜ now (text .exit) ≡ stored (now (table .entry)) (now (text .entry)) noneTold lines (fileOf (now (file .entry))) .text ⌝ }
+    ensures { λ r. ⌜ walkedGiven r ≡ answerOf (fileStored (now (table .entry)) (now (text .entry)) lines (now (file .entry))) ⌝ }
+    ensures { λ r. ⌜ now (table .exit) ≡ fileStored (now (table .entry)) (now (text .entry)) lines (now (file .entry)) .table ⌝ }
+    ensures { λ r. ⌜ now (text .exit) ≡ fileStored (now (table .entry)) (now (text .entry)) lines (now (file .entry)) .text ⌝ }
     ensures { λ r. ⌜ ToldFits largestFile r ⌝ }
 {
     match first_block(file) {

@@ -1,5 +1,4 @@
 // The file header block (clause 9.4.1), which comes first.
-use crate::head::Extent;
 use crate::head::Head;
 use crate::head::HeadAnswer;
 use crate::head::extent_of;
@@ -22,8 +21,6 @@ use fields::numbers::OVER_LIMIT;
 use fields::numbers::Refusal;
 use fields::numbers::TRUNCATED;
 ghost use mathlib.Core.Path.{_≡_};
-ghost use Prim.Native.Nat.{_≤_};
-ghost use lib.ListN.{length};
 ghost use Rattle.blocks.specs.Header.{versionOf, versionGiven, fieldsOf, fieldsGiven, restOf, judgedOf, firstOf, firstGiven};
 
 // Bytes of the header's data.

@@ -1,5 +1,4 @@
 // Parts of a file, for every offset: a block's data, its meta data, a chain's name; the empty part where there is none.
-use crate::head::Head;
 use crate::head::HeadAnswer;
 use crate::head::extent_of;
 use crate::head::head_at;

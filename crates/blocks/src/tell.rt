@@ -7,7 +7,8 @@ ghost use Prim.Native.Nat.{_*_, _≤_};
 ghost use lib.ListN.{length, set};
 ghost use lib.Seq.{sets};
 ghost use Rattle.fields.specs.Limits.{largestFile};
-ghost use Rattle.blocks.specs.Told.{rowWords, lineOf, bytesOf, rowWidth, toldWith};
+ghost use Rattle.blocks.specs.Told.{rowWords, lineOf, rowWidth};
+ghost use Rattle.blocks.specs.Inside.{bytesOf, toldWith};
 
 // Words of a row.
 pub const ROW_WIDTH: usize = 5;

@@ -16,13 +16,13 @@ use fields::numbers::BAD_CHAIN;
 use fields::numbers::Refusal;
 ghost use mathlib.Core.Path.{_≡_};
 ghost use mathlib.Core.Bool.{false};
-ghost use Prim.Native.Nat.{_+_, _-_, _*_, _≤_};
+ghost use Prim.Native.Nat.{_-_, _*_, _≤_};
 ghost use lib.ListN.{length};
 ghost use Rattle.fields.specs.Limits.{largestFile};
 ghost use Rattle.blocks.specs.Block.{levels};
-ghost use Rattle.blocks.specs.Walk.{rowOf, fileEnds, walkOf};
+ghost use Rattle.blocks.specs.Walk.{rowOf, fileEnds};
 ghost use Rattle.blocks.specs.Chain.{inChain};
-ghost use Rattle.blocks.specs.Told.{stored, walkedGiven, answerOf, ToldFits};
+ghost use Rattle.blocks.specs.Inside.{walkStored, walkedGiven, answerOf, filledOf, ToldFits};
 
 // How a walk ended: with so much told in all, or with a refusal.
 pub enum Walked {
@@ -65,6 +65,20 @@ fn walked_in_chain(inner: Walked) -> Walked
     }
 }
 
+// The answer where all blocks are walked: the last one ends where the bytes end.
+fn filled(at: usize, len: usize, told: Told) -> Walked
+    ensures { λ r. ⌜ walkedGiven r ≡ filledOf at len told ⌝ }
+{
+    if at == len {
+        Walked::Done(told)
+    } else {
+        Walked::Refused(Refusal {
+            number: BAD_CHAIN,
+            place: at,
+        })
+    }
+}
+
 // Walks the blocks of `run`, which end where `s` ends; at the top they are as many as there are. `remaining` chains may still be
 // entered, and `before` has been told before.
 pub(crate) fn walk(
@@ -77,9 +91,9 @@ pub(crate) fn walk(
     lines: bool,
 ) -> Walked
     requires { ⌜ (run .at ≤ length (now s)) × (length (now s) ≤ largestFile) × (remaining ≤ levels) × (before .blocks ≤ run .at) × (before .bytes ≤ 9 * run .at) ⌝ }
-    ensures { λ r. ⌜ walkedGiven r ≡ answerOf (stored (now (table .entry)) (now (text .entry)) before lines (walkOf remaining (run .count) (now (s .entry)) (run .at) false)) ⌝ }
-    ensures { λ r. ⌜ now (table .exit) ≡ stored (now (table .entry)) (now (text .entry)) before lines (walkOf remaining (run .count) (now (s .entry)) (run .at) false) .table ⌝ }
-    ensures { λ r. ⌜ now (text .exit) ≡ stored (now (table .entry)) (now (text .entry)) before lines (walkOf remaining (run .count) (now (s .entry)) (run .at) false) .text ⌝ }
+    ensures { λ r. ⌜ walkedGiven r ≡ answerOf (walkStored (now (table .entry)) (now (text .entry)) before lines (now (s .entry)) run remaining) ⌝ }
+    ensures { λ r. ⌜ now (table .exit) ≡ walkStored (now (table .entry)) (now (text .entry)) before lines (now (s .entry)) run remaining .table ⌝ }
+    ensures { λ r. ⌜ now (text .exit) ≡ walkStored (now (table .entry)) (now (text .entry)) before lines (now (s .entry)) run remaining .text ⌝ }
     ensures { λ r. ⌜ ToldFits (length (now (s .entry))) r ⌝ }
 {
     let mut at = run.at;
@@ -118,12 +132,5 @@ pub(crate) fn walk(
         left = left - 1;
         continued = is_continuation(kind);
     }
-    if at == s.len() {
-        Walked::Done(told)
-    } else {
-        Walked::Refused(Refusal {
-            number: BAD_CHAIN,
-            place: at,
-        })
-    }
+    filled(at, s.len(), told)
 }

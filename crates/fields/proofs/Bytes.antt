@@ -1,11 +1,12 @@
 -- Laws of little-endian numbers. Assumes nothing.
-use mathlib.Core.Path.{_≡_, refl, ap, sym, subst, _∙_}
+use mathlib.Core.Path.{_≡_}
 use mathlib.Core.List.{List}
-use Prim.Native.Nat.{ℕ, zero, suc, _+_, _-_, _*_, _^_, _<_, _≤_}
+use Prim.Native.Nat.{ℕ, suc, _+_, _-_, _*_, _^_, _<_, _≤_}
 use native.Mathlib.Nat.{pow-le-pow-right, lt-of-lt-of-le, pow-succ'}
 use native.Mathlib.Omega.{arith}
 use lib.ListN.{getD}
-use Rattle.fields.specs.Field.{littleEndian, ValueOf}
+use Rattle.fields.specs.Field.{littleEndian}
+use Rattle.fields.specs.Inside.{ValueOf}
 
 -- one byte more, below the bytes already read: the loop goes from the highest byte down
 pub one-more : (s : List ℕ) (at width i : ℕ) → 0 < i → i ≤ width

@@ -10,7 +10,7 @@ use lib.ListN.{length}
 use Rattle.fields.specs.Numbers.{truncated, badName}
 use Rattle.fields.specs.Limits.{longestName}
 use Rattle.fields.specs.Judged.{Judged, done, refused, onDone, refusedIf}
-use Rattle.fields.specs.Field.{fieldAt, littleEndian, u16Given, u32Given, u64Given}
+use Rattle.fields.specs.Field.{fieldAt, u16Given, u32Given, u64Given}
 use Rattle.fields.specs.Name.{stringAt, nameAt, stringGiven, nameGiven}
 use Rattle.fields.specs.declared.field.U16Field as half
 use Rattle.fields.specs.declared.field.U32Field as word

@@ -1,6 +1,5 @@
 -- Little-endian fields of a list of bytes (01, "Blocks": "Little-endian").
-use Prim.Native.Nat.{ℕ, zero, suc, _+_, _*_, _^_, _<_}
-use mathlib.Core.Path.{_≡_}
+use Prim.Native.Nat.{ℕ, zero, suc, _+_, _*_}
 use mathlib.Core.List.{List, []}
 use lib.ListN.{length, getD, take, drop}
 use lib.Dec.{ltb}
@@ -35,8 +34,3 @@ u32Given at word.the-variants.Missing = refused truncated at
 unfoldable pub u64Given : ℕ → long.U64Field → Judged ℕ
 u64Given at (long.the-variants.Value v) = done v
 u64Given at long.the-variants.Missing = refused truncated at
-
--- r is the number of that width at `at`, and is below 256 to the width (inside the crate)
-pub record ValueOf (width : ℕ) (s : List ℕ) (at r : ℕ) : Type 0 where
-  pub value : r ≡ littleEndian width s at
-  pub small : r < 256 ^ width

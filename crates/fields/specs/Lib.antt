@@ -3,3 +3,4 @@ pub mod Limits
 pub mod Judged
 pub mod Field
 pub mod Name
+pub mod Inside

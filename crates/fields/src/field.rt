@@ -3,7 +3,8 @@ ghost use mathlib.Core.Path.{_≡_};
 ghost use Prim.Native.Nat.{_+_, _≤_};
 ghost use lib.ListN.{length};
 ghost use lib.Dec.{ltb};
-ghost use Rattle.fields.specs.Field.{ValueOf, fieldAt, bytesAt, u16Given, u32Given, u64Given};
+ghost use Rattle.fields.specs.Inside.{ValueOf};
+ghost use Rattle.fields.specs.Field.{fieldAt, bytesAt, u16Given, u32Given, u64Given};
 
 pub enum U16Field {
     Value(u16),

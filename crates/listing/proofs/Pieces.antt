@@ -1,6 +1,6 @@
 -- Pieces of text stored one after the other at the start of a buffer, each in what the one before left. Assumes nothing.
-use mathlib.Core.Path.{_≡_, refl, ap, sym, _∙_}
-use mathlib.Core.List.{List, [], _∷_, _++_, append-assoc, append-nil}
+use mathlib.Core.Path.{_≡_, ap, sym, _∙_}
+use mathlib.Core.List.{List, [], _++_, append-assoc, append-nil}
 use Prim.Native.Nat.{ℕ, _+_, _-_, _<_, _≤_}
 use native.Mathlib.Omega.{arith}
 use borrow.Author.Tests.{lt-ltb, le-ltb}
@@ -9,7 +9,7 @@ use lib.Dec.{ltb}
 use lib.ListN.{length, take, drop, length-append, length-drop}
 use lib.Seq.{sets, take-all, take-at, drop-at, drop-drop, drop-length}
 use Rattle.fields.specs.Numbers.{noRoom, overLimit}
-use Rattle.fields.specs.Judged.{Judged, done, refused, bufferAfter}
+use Rattle.fields.specs.Judged.{done, refused, bufferAfter}
 use Rattle.fields.specs.declared.numbers.Refusal.{Refusal}
 use Rattle.fields.proofs.Judging.{passed}
 use Rattle.text.specs.Digits.{decimalField}

@@ -5,7 +5,7 @@ use mathlib.Core.List.{List, [], _∷_, _++_}
 use lib.Dec.{ltb}
 use lib.ListN.{length}
 use Rattle.fields.specs.Numbers.{overLimit}
-use Rattle.fields.specs.Judged.{Judged, done, refused, refusedBy, refusedIf, roomFor}
+use Rattle.fields.specs.Judged.{Judged, done, refused, refusedBy, refusedIf, roomFor, bufferAfter}
 use Rattle.text.specs.Digits.{decimalField}
 use Rattle.blocks.specs.Told.{tab, lineFeed}
 use Rattle.blocks.specs.File.{fileLines, linesOf}
@@ -40,6 +40,10 @@ listingOf limit s = listingWith (fileWithin limit s) (fileLines s)
 -- the answer: so many bytes, or 12 where the buffer is too small
 abbrev pub written : List ℕ → List ℕ → Judged ℕ
 written result text = roomFor result text (length result)
+
+-- the buffer then
+abbrev pub textAfter : List ℕ → List ℕ → List ℕ
+textAfter result text = bufferAfter (written result text) result text
 
 -- 01's number, place and value of each case
 abbrev pub listingGiven : Listing → Judged ℕ

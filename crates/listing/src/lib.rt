@@ -12,9 +12,9 @@ ghost use mathlib.Core.List.{[]};
 ghost use lib.ListN.{length};
 ghost use lib.Seq.{sets};
 ghost use Rattle.fields.specs.Numbers.{noRoom};
-ghost use Rattle.fields.specs.Judged.{done, refused, bufferAfter};
+ghost use Rattle.fields.specs.Judged.{done, refused};
 ghost use Rattle.blocks.specs.File.{fileLines, linesGiven, linesOf};
-ghost use Rattle.listing.specs.Listing.{endLine, fileWithin, listingWith, listingOf, written, listingGiven};
+ghost use Rattle.listing.specs.Listing.{endLine, fileWithin, listingWith, listingOf, written, textAfter, listingGiven};
 
 // The answer: the text was written, in so many bytes.
 pub enum Listing {
@@ -65,7 +65,7 @@ fn lines_within(file: &[u8], limit: usize) -> Lines
 // The listing of a refused file: its first and last line, count 0.
 fn put_refused(text: &mut [u8], e: Refusal) -> Listing
     ensures { λ r. ⌜ listingGiven r ≡ written (listingWith (refused (e .number) (e .place)) []) (now (text .entry)) ⌝ }
-    ensures { λ r. ⌜ now (text .exit) ≡ bufferAfter (written (listingWith (refused (e .number) (e .place)) []) (now (text .entry))) (listingWith (refused (e .number) (e .place)) []) (now (text .entry)) ⌝ }
+    ensures { λ r. ⌜ now (text .exit) ≡ textAfter (listingWith (refused (e .number) (e .place)) []) (now (text .entry)) ⌝ }
 {
     let number = e.number;
     let size = 9 + end_size(number, 0);
@@ -81,7 +81,7 @@ fn put_refused(text: &mut [u8], e: Refusal) -> Listing
 fn put_done(file: &[u8], text: &mut [u8], blocks: usize, bytes: usize) -> Listing
     requires { ⌜ linesOf (now file) ≡ done (record { blocks = blocks; bytes = bytes }) ⌝ }
     ensures { λ r. ⌜ listingGiven r ≡ written (listingWith (linesOf (now (file .entry))) (fileLines (now (file .entry)))) (now (text .entry)) ⌝ }
-    ensures { λ r. ⌜ now (text .exit) ≡ bufferAfter (written (listingWith (linesOf (now (file .entry))) (fileLines (now (file .entry)))) (now (text .entry))) (listingWith (linesOf (now (file .entry))) (fileLines (now (file .entry)))) (now (text .entry)) ⌝ }
+    ensures { λ r. ⌜ now (text .exit) ≡ textAfter (listingWith (linesOf (now (file .entry))) (fileLines (now (file .entry)))) (now (text .entry)) ⌝ }
 {
     let lines = 9 + end_size(0, blocks);
     if text.len() < lines {
@@ -103,7 +103,7 @@ fn put_done(file: &[u8], text: &mut [u8], blocks: usize, bytes: usize) -> Listin
 // hold the listing stays as it was.
 pub fn list_file(file: &[u8], limit: usize, text: &mut [u8]) -> Listing
     ensures { λ r. ⌜ listingGiven r ≡ written (listingOf limit (now (file .entry))) (now (text .entry)) ⌝ }
-    ensures { λ r. ⌜ now (text .exit) ≡ bufferAfter (written (listingOf limit (now (file .entry))) (now (text .entry))) (listingOf limit (now (file .entry))) (now (text .entry)) ⌝ }
+    ensures { λ r. ⌜ now (text .exit) ≡ textAfter (listingOf limit (now (file .entry))) (now (text .entry)) ⌝ }
 {
     match lines_within(file, limit) {
         Lines::Refused(e) => put_refused(text, e),

@@ -6,9 +6,6 @@ use lib.ListN.{length}
 use borrow.Author.Needs.{needs}
 use Rattle.cut_runs.proofs.print_cuts.Statement.{statement}
 use Rattle.cut_runs.proofs.print_cuts.Tie as tie
-use Rattle.cut_runs.proofs.print_cuts.Reads as reads
-use Rattle.cut_runs.proofs.print_cuts.Lts as lts
-use Rattle.cut_runs.proofs.print_walk.Reads as print-walk-reads
 
 abbrev Inv-loop : tie.InvT-loop
 Inv-loop file₀ size n₀ file n = (n ≤ size) × (length file ≡ length file₀)

@@ -4,9 +4,6 @@ use Rattle.listing.specs.Listing.{fileWithin}
 use borrow.Author.Needs.{needs}
 use Rattle.listing.proofs.lines_within.Statement.{statement}
 use Rattle.listing.proofs.lines_within.Tie as tie
-use Rattle.listing.proofs.lines_within.Reads as reads
-use Rattle.listing.proofs.lines_within.Lts as lts
-use Rattle.blocks.proofs.file.lines_size.Reads as lines-size-reads
 
 returns : tie.Need-returns
 unfolding fileWithin

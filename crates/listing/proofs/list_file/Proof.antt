@@ -1,16 +1,10 @@
 -- The judgement of the file decides which listing is stored.
 use mathlib.Core.Path.{sym, _∙_, ap}
-use Rattle.listing.specs.Listing.{listingOf}
 use Rattle.blocks.specs.File.{linesGiven}
 use Rattle.listing.proofs.Pieces.{within-limit, listing-refused, listing-done}
 use borrow.Author.Needs.{needs}
 use Rattle.listing.proofs.list_file.Statement.{statement}
 use Rattle.listing.proofs.list_file.Tie as tie
-use Rattle.listing.proofs.list_file.Reads as reads
-use Rattle.listing.proofs.list_file.Lts as lts
-use Rattle.listing.proofs.lines_within.Reads as lines-within-reads
-use Rattle.listing.proofs.put_done.Reads as put-done-reads
-use Rattle.listing.proofs.put_refused.Reads as put-refused-reads
 
 lines-within-requires : tie.Need-lines-within-requires
 lines-within-requires c κs = search needs

@@ -1,17 +1,10 @@
 -- The length decides, and then three pieces are stored.
-use mathlib.Core.Path.{refl, sym, _∙_, ap}
+use mathlib.Core.Path.{refl, _∙_}
 use native.Mathlib.Omega.{arith}
 use Rattle.listing.proofs.Pieces.{end-short, done-stored, done-short}
 use borrow.Author.Needs.{needs}
 use Rattle.listing.proofs.put_done.Statement.{statement}
 use Rattle.listing.proofs.put_done.Tie as tie
-use Rattle.listing.proofs.put_done.Reads as reads
-use Rattle.listing.proofs.put_done.Lts as lts
-use Rattle.blocks.proofs.file.put_lines.Reads as put-lines-reads
-use Rattle.listing.proofs.end_size.Reads as end-size-reads
-use Rattle.listing.proofs.no_room.Reads as no-room-reads
-use Rattle.listing.proofs.put_end.Reads as put-end-reads
-use Rattle.text.proofs.line.put_word.Reads as put-word-reads
 
 end-size-requires : tie.Need-end-size-requires
 end-size-requires c κs = search needs

@@ -5,10 +5,6 @@ use Rattle.listing.proofs.Pieces.{end-length, end-stored}
 use borrow.Author.Needs.{needs}
 use Rattle.listing.proofs.put_end.Statement.{statement}
 use Rattle.listing.proofs.put_end.Tie as tie
-use Rattle.listing.proofs.put_end.Reads as reads
-use Rattle.listing.proofs.put_end.Lts as lts
-use Rattle.text.proofs.line.put_decimal.Reads as put-decimal-reads
-use Rattle.text.proofs.line.put_word.Reads as put-word-reads
 
 slice-aggregate-put-word : tie.Need-slice-aggregate-put-word
 slice-aggregate-put-word c = search needs

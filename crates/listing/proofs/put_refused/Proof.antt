@@ -1,16 +1,10 @@
 -- The length decides, and then two pieces are stored.
-use mathlib.Core.Path.{sym, _∙_, ap}
+use mathlib.Core.Path.{_∙_}
 use native.Mathlib.Omega.{arith}
 use Rattle.listing.proofs.Pieces.{end-short, refused-stored, refused-short}
 use borrow.Author.Needs.{needs}
 use Rattle.listing.proofs.put_refused.Statement.{statement}
 use Rattle.listing.proofs.put_refused.Tie as tie
-use Rattle.listing.proofs.put_refused.Reads as reads
-use Rattle.listing.proofs.put_refused.Lts as lts
-use Rattle.listing.proofs.end_size.Reads as end-size-reads
-use Rattle.listing.proofs.no_room.Reads as no-room-reads
-use Rattle.listing.proofs.put_end.Reads as put-end-reads
-use Rattle.text.proofs.line.put_word.Reads as put-word-reads
 
 end-size-requires : tie.Need-end-size-requires
 end-size-requires c κs = search needs

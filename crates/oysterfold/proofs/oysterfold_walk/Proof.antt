@@ -1,16 +1,11 @@
 -- The result's length, and then the walk, decide.
 use mathlib.Core.Path.{sym, _∙_, ap}
-use mathlib.Core.Path.{refl}
 use borrow.Author.Tests.{lt-ltb, le-ltb}
 use Rattle.blocks.specs.File.{walkGiven}
 use Rattle.oysterfold.specs.Results.{walkInto, resultOf}
 use borrow.Author.Needs.{needs}
 use Rattle.oysterfold.proofs.oysterfold_walk.Statement.{statement}
 use Rattle.oysterfold.proofs.oysterfold_walk.Tie as tie
-use Rattle.oysterfold.proofs.oysterfold_walk.Reads as reads
-use Rattle.oysterfold.proofs.oysterfold_walk.Lts as lts
-use Rattle.blocks.proofs.file.walk_blocks.Reads as walk-blocks-reads
-use Rattle.oysterfold.proofs.put_result.Reads as put-result-reads
 
 returns : tie.Need-returns
 unfolding walkInto resultOf

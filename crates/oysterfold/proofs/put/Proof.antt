@@ -4,8 +4,6 @@ use mathlib.Core.Path.{sym}
 use borrow.Author.Needs.{needs}
 use Rattle.oysterfold.proofs.put.Statement.{statement}
 use Rattle.oysterfold.proofs.put.Tie as tie
-use Rattle.oysterfold.proofs.put.Reads as reads
-use Rattle.oysterfold.proofs.put.Lts as lts
 
 mul-result : tie.Need-mul-result
 mul-result c = search needs

@@ -2,9 +2,6 @@
 use borrow.Author.Needs.{needs}
 use Rattle.oysterfold.proofs.put_result.Statement.{statement}
 use Rattle.oysterfold.proofs.put_result.Tie as tie
-use Rattle.oysterfold.proofs.put_result.Reads as reads
-use Rattle.oysterfold.proofs.put_result.Lts as lts
-use Rattle.oysterfold.proofs.put.Reads as put-reads
 
 put-requires : tie.Need-put-requires
 put-requires c κs = search needs

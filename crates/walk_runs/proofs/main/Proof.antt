@@ -3,10 +3,6 @@ use Prim.Native.Nat.{_-_}
 use borrow.Author.Needs.{needs}
 use Rattle.walk_runs.proofs.main.Statement.{statement}
 use Rattle.walk_runs.proofs.main.Tie as tie
-use Rattle.walk_runs.proofs.main.Reads as reads
-use Rattle.walk_runs.proofs.main.Lts as lts
-use Rattle.os.proofs.arg_count.Reads as arg-count-reads
-use Rattle.walk_runs.proofs.run.Reads as run-reads
 
 abbrev Inv-loop : tie.InvT-loop
 Inv-loop count i₀ i = Unit {0}

@@ -3,10 +3,6 @@ use Prim.Native.Nat.{_≤_, _-_}
 use borrow.Author.Needs.{needs}
 use Rattle.walk_runs.proofs.print_parts.Statement.{statement}
 use Rattle.walk_runs.proofs.print_parts.Tie as tie
-use Rattle.walk_runs.proofs.print_parts.Reads as reads
-use Rattle.walk_runs.proofs.print_parts.Lts as lts
-use Rattle.walk_runs.proofs.print_part.Reads as print-part-reads
-use Rattle.walk_runs.proofs.wide.Reads as wide-reads
 
 abbrev Inv-loop : tie.InvT-loop
 Inv-loop file table blocks i₀ i = i ≤ 5459

@@ -6,10 +6,6 @@ use Rattle.blocks.proofs.Fits.{head-within}
 use borrow.Author.Needs.{needs}
 use Rattle.blocks.proofs.block.block_at.Statement.{statement}
 use Rattle.blocks.proofs.block.block_at.Tie as tie
-use Rattle.blocks.proofs.block.block_at.Reads as reads
-use Rattle.blocks.proofs.block.block_at.Lts as lts
-use Rattle.blocks.proofs.block.judged.Reads as judged-reads
-use Rattle.blocks.proofs.head.head_at.Reads as head-at-reads
 
 head-at-requires : tie.Need-head-at-requires
 head-at-requires c κs = search needs

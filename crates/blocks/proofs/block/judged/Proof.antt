@@ -7,13 +7,6 @@ use Rattle.blocks.proofs.Fits.{extent-fits, room-within}
 use borrow.Author.Needs.{needs}
 use Rattle.blocks.proofs.block.judged.Statement.{statement}
 use Rattle.blocks.proofs.block.judged.Tie as tie
-use Rattle.blocks.proofs.block.judged.Reads as reads
-use Rattle.blocks.proofs.block.judged.Lts as lts
-use Rattle.blocks.proofs.block.standing.Reads as standing-reads
-use Rattle.blocks.proofs.block.with_contents.Reads as with-contents-reads
-use Rattle.blocks.proofs.head.extent_of.Reads as extent-of-reads
-use Rattle.blocks.proofs.head.room.Reads as room-reads
-use Rattle.blocks.proofs.kind.kind_of.Reads as kind-of-reads
 
 kind-of-requires : tie.Need-kind-of-requires
 kind-of-requires c κs = search needs

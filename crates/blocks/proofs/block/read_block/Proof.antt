@@ -2,15 +2,10 @@
 use mathlib.Core.Path.{sym, _∙_, ap}
 use borrow.Author.Tests.{lt-ltb, le-ltb, eq-eqb, ne-eqb}
 use Rattle.fields.specs.Judged.{refusedBy}
-use Rattle.blocks.specs.Block.{blockIn}
-use Rattle.blocks.specs.Block.{blockGiven}
+use Rattle.blocks.specs.Block.{blockIn, blockGiven}
 use borrow.Author.Needs.{needs}
 use Rattle.blocks.proofs.block.read_block.Statement.{statement}
 use Rattle.blocks.proofs.block.read_block.Tie as tie
-use Rattle.blocks.proofs.block.read_block.Reads as reads
-use Rattle.blocks.proofs.block.read_block.Lts as lts
-use Rattle.blocks.proofs.block.block_at.Reads as block-at-reads
-use Rattle.blocks.proofs.chain.in_chain.Reads as in-chain-reads
 
 returns : tie.Need-returns
 unfolding blockIn

@@ -4,8 +4,6 @@ use Rattle.blocks.specs.Block.{standingOf}
 use borrow.Author.Needs.{needs}
 use Rattle.blocks.proofs.block.standing.Statement.{statement}
 use Rattle.blocks.proofs.block.standing.Tie as tie
-use Rattle.blocks.proofs.block.standing.Reads as reads
-use Rattle.blocks.proofs.block.standing.Lts as lts
 
 enum-told : tie.Need-enum-told
 enum-told c = search needs

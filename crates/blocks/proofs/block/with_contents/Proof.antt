@@ -8,11 +8,6 @@ use Rattle.blocks.specs.Chain.{runGiven}
 use borrow.Author.Needs.{needs}
 use Rattle.blocks.proofs.block.with_contents.Statement.{statement}
 use Rattle.blocks.proofs.block.with_contents.Tie as tie
-use Rattle.blocks.proofs.block.with_contents.Reads as reads
-use Rattle.blocks.proofs.block.with_contents.Lts as lts
-use Rattle.blocks.proofs.chain.chain_at.Reads as chain-at-reads
-use Rattle.blocks.proofs.chain.in_chain.Reads as in-chain-reads
-use Rattle.blocks.proofs.kind.is_chain.Reads as is-chain-reads
 
 is-chain-requires : tie.Need-is-chain-requires
 is-chain-requires c κs = search needs

@@ -1,15 +1,9 @@
 -- The name decides.
-use mathlib.Core.Path.{sym, _∙_, ap}
 use Rattle.blocks.specs.Chain.{chainAt}
 use Rattle.fields.proofs.Judging.{name-size, name-missing, name-long, name-within}
 use borrow.Author.Needs.{needs}
 use Rattle.blocks.proofs.chain.chain_at.Statement.{statement}
 use Rattle.blocks.proofs.chain.chain_at.Tie as tie
-use Rattle.blocks.proofs.chain.chain_at.Reads as reads
-use Rattle.blocks.proofs.chain.chain_at.Lts as lts
-use Rattle.blocks.proofs.chain.fields_after_name.Reads as fields-after-name-reads
-use Rattle.blocks.proofs.chain.truncated.Reads as truncated-reads
-use Rattle.fields.proofs.name.name_at.Reads as name-at-reads
 
 name-at-requires : tie.Need-name-at-requires
 name-at-requires c κs = search needs

@@ -7,11 +7,6 @@ use Rattle.fields.proofs.Judging.{u32-value, u32-missing}
 use borrow.Author.Needs.{needs}
 use Rattle.blocks.proofs.chain.count_at.Statement.{statement}
 use Rattle.blocks.proofs.chain.count_at.Tie as tie
-use Rattle.blocks.proofs.chain.count_at.Reads as reads
-use Rattle.blocks.proofs.chain.count_at.Lts as lts
-use Rattle.blocks.proofs.chain.truncated.Reads as truncated-reads
-use Rattle.blocks.proofs.padding.zeros.Reads as zeros-reads
-use Rattle.fields.proofs.field.u32_at.Reads as u32-at-reads
 
 truncated-requires : tie.Need-truncated-requires
 truncated-requires c κs = search needs

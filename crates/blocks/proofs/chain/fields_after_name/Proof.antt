@@ -1,5 +1,5 @@
 -- Each field is read and judged in turn.
-use mathlib.Core.Path.{sym, _∙_, ap}
+use mathlib.Core.Path.{sym}
 use native.Mathlib.Omega.{arith}
 use borrow.Author.Tests.{lt-ltb, le-ltb, eq-eqb, ne-eqb}
 use Rattle.blocks.specs.Chain.{fieldsAfterName}
@@ -7,12 +7,6 @@ use Rattle.fields.proofs.Judging.{u32-value, u32-missing, field-within}
 use borrow.Author.Needs.{needs}
 use Rattle.blocks.proofs.chain.fields_after_name.Statement.{statement}
 use Rattle.blocks.proofs.chain.fields_after_name.Tie as tie
-use Rattle.blocks.proofs.chain.fields_after_name.Reads as reads
-use Rattle.blocks.proofs.chain.fields_after_name.Lts as lts
-use Rattle.blocks.proofs.chain.count_at.Reads as count-at-reads
-use Rattle.blocks.proofs.chain.truncated.Reads as truncated-reads
-use Rattle.blocks.proofs.padding.aligned.Reads as aligned-reads
-use Rattle.fields.proofs.field.u32_at.Reads as u32-at-reads
 
 add-next : tie.Need-add-next
 add-next c = search needs

@@ -1,11 +1,7 @@
 -- The test on the number decides.
 use borrow.Author.Tests.{eq-eqb, ne-eqb}
-use Rattle.blocks.specs.Chain.{inChain}
-use borrow.Author.Needs.{needs}
 use Rattle.blocks.proofs.chain.in_chain.Statement.{statement}
 use Rattle.blocks.proofs.chain.in_chain.Tie as tie
-use Rattle.blocks.proofs.chain.in_chain.Reads as reads
-use Rattle.blocks.proofs.chain.in_chain.Lts as lts
 
 returns : tie.Need-returns
 returns c = simp (eq-eqb _ _ (c .if1 .taken))

@@ -1,13 +1,10 @@
 -- Each case is handed on.
 use mathlib.Core.Path.{sym, _∙_, ap}
-use Rattle.blocks.specs.Told.{walkedGiven}
+use Rattle.blocks.specs.Inside.{walkedGiven}
 use Rattle.blocks.proofs.Files.{lines-told}
 use borrow.Author.Needs.{needs}
 use Rattle.blocks.proofs.file.lines_size.Statement.{statement}
 use Rattle.blocks.proofs.file.lines_size.Tie as tie
-use Rattle.blocks.proofs.file.lines_size.Reads as reads
-use Rattle.blocks.proofs.file.lines_size.Lts as lts
-use Rattle.blocks.proofs.file.measured.Reads as measured-reads
 
 measured-requires : tie.Need-measured-requires
 measured-requires c κs = search needs

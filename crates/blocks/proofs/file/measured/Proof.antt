@@ -1,12 +1,9 @@
 -- What a file tells does not depend on the table and the text.
-use mathlib.Core.Path.{sym, _∙_, ap}
+use mathlib.Core.Path.{_∙_}
 use Rattle.blocks.proofs.Files.{told-whole}
 use borrow.Author.Needs.{needs}
 use Rattle.blocks.proofs.file.measured.Statement.{statement}
 use Rattle.blocks.proofs.file.measured.Tie as tie
-use Rattle.blocks.proofs.file.measured.Reads as reads
-use Rattle.blocks.proofs.file.measured.Lts as lts
-use Rattle.blocks.proofs.file.walk_file.Reads as walk-file-reads
 
 slice-aggregate-walk-file : tie.Need-slice-aggregate-walk-file
 slice-aggregate-walk-file c = search needs

@@ -5,10 +5,6 @@ use Rattle.blocks.proofs.Files.{lines-refused, lines-short, lines-done,
 use borrow.Author.Needs.{needs}
 use Rattle.blocks.proofs.file.put_lines.Statement.{statement}
 use Rattle.blocks.proofs.file.put_lines.Tie as tie
-use Rattle.blocks.proofs.file.put_lines.Reads as reads
-use Rattle.blocks.proofs.file.put_lines.Lts as lts
-use Rattle.blocks.proofs.file.lines_size.Reads as lines-size-reads
-use Rattle.blocks.proofs.file.walk_file.Reads as walk-file-reads
 
 lines-size-requires : tie.Need-lines-size-requires
 lines-size-requires c κs = search needs

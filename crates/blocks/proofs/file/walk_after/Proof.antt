@@ -1,18 +1,12 @@
 -- The first block is told, and then the walk tells the others.
 use mathlib.Core.Path.{sym, _∙_, ap}
 use native.Mathlib.Omega.{arith}
-use Rattle.blocks.specs.Told.{Stored, answerOf}
-use Rattle.blocks.specs.File.{noneTold}
+use Rattle.blocks.specs.Inside.{Stored, answerOf, noneTold}
 use Rattle.blocks.proofs.Turns.{told-short}
 use Rattle.blocks.proofs.Files.{after-first, fits-more}
 use borrow.Author.Needs.{needs}
 use Rattle.blocks.proofs.file.walk_after.Statement.{statement}
 use Rattle.blocks.proofs.file.walk_after.Tie as tie
-use Rattle.blocks.proofs.file.walk_after.Reads as reads
-use Rattle.blocks.proofs.file.walk_after.Lts as lts
-use Rattle.blocks.proofs.tell.tell.Reads as tell-reads
-use Rattle.blocks.proofs.walk.row_of.Reads as row-of-reads
-use Rattle.blocks.proofs.walk.walk.Reads as walk-reads
 
 row-of-requires : tie.Need-row-of-requires
 row-of-requires c κs = search needs

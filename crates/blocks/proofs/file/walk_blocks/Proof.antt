@@ -1,17 +1,12 @@
 -- The number of rows decides, and then they are stored.
-use mathlib.Core.Path.{sym, _∙_, ap}
+use mathlib.Core.Path.{sym, _∙_, ap, subst}
 use native.Mathlib.Omega.{arith}
-use Rattle.blocks.specs.Told.{walkedGiven, ToldFits}
-use mathlib.Core.Path.{subst}
+use Rattle.blocks.specs.Inside.{walkedGiven, ToldFits}
 use mathlib.Core.Bool.{false}
 use Rattle.blocks.proofs.Files.{rows-refused, rows-short, rows-done, words-stored}
 use borrow.Author.Needs.{needs}
 use Rattle.blocks.proofs.file.walk_blocks.Statement.{statement}
 use Rattle.blocks.proofs.file.walk_blocks.Tie as tie
-use Rattle.blocks.proofs.file.walk_blocks.Reads as reads
-use Rattle.blocks.proofs.file.walk_blocks.Lts as lts
-use Rattle.blocks.proofs.file.measured.Reads as measured-reads
-use Rattle.blocks.proofs.file.walk_file.Reads as walk-file-reads
 
 measured-requires : tie.Need-measured-requires
 measured-requires c κs = search needs

@@ -1,16 +1,11 @@
 -- The first block decides.
 use mathlib.Core.Path.{sym, _∙_, ap}
-use Rattle.blocks.specs.Told.{Stored, stored, answerOf}
-use Rattle.blocks.specs.File.{noneTold}
+use Rattle.blocks.specs.Inside.{Stored, stored, answerOf, noneTold}
 use Rattle.blocks.specs.Header.{firstGiven}
 use Rattle.blocks.proofs.Files.{first-fits, file-after, file-refused}
 use borrow.Author.Needs.{needs}
 use Rattle.blocks.proofs.file.walk_file.Statement.{statement}
 use Rattle.blocks.proofs.file.walk_file.Tie as tie
-use Rattle.blocks.proofs.file.walk_file.Reads as reads
-use Rattle.blocks.proofs.file.walk_file.Lts as lts
-use Rattle.blocks.proofs.file.walk_after.Reads as walk-after-reads
-use Rattle.blocks.proofs.header.first_block.Reads as first-block-reads
 
 first-block-requires : tie.Need-first-block-requires
 first-block-requires c κs = search needs

@@ -3,9 +3,6 @@ use Rattle.blocks.specs.Head.{extentOf}
 use borrow.Author.Needs.{needs}
 use Rattle.blocks.proofs.head.extent_of.Statement.{statement}
 use Rattle.blocks.proofs.head.extent_of.Tie as tie
-use Rattle.blocks.proofs.head.extent_of.Reads as reads
-use Rattle.blocks.proofs.head.extent_of.Lts as lts
-use Rattle.blocks.proofs.padding.aligned.Reads as aligned-reads
 
 add-data-end : tie.Need-add-data-end
 add-data-end c = search needs

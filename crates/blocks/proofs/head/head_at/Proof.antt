@@ -5,9 +5,6 @@ use Rattle.fields.proofs.Judging.{u32-value, u32-missing, field-within}
 use borrow.Author.Needs.{needs}
 use Rattle.blocks.proofs.head.head_at.Statement.{statement}
 use Rattle.blocks.proofs.head.head_at.Tie as tie
-use Rattle.blocks.proofs.head.head_at.Reads as reads
-use Rattle.blocks.proofs.head.head_at.Lts as lts
-use Rattle.fields.proofs.field.u32_at.Reads as u32-at-reads
 
 u32-at-requires : tie.Need-u32-at-requires
 u32-at-requires c κs = search needs

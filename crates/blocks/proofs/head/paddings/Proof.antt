@@ -5,9 +5,6 @@ use Rattle.blocks.specs.Padding.{checkGiven}
 use borrow.Author.Needs.{needs}
 use Rattle.blocks.proofs.head.paddings.Statement.{statement}
 use Rattle.blocks.proofs.head.paddings.Tie as tie
-use Rattle.blocks.proofs.head.paddings.Reads as reads
-use Rattle.blocks.proofs.head.paddings.Lts as lts
-use Rattle.blocks.proofs.padding.zeros.Reads as zeros-reads
 
 zeros-requires : tie.Need-zeros-requires
 zeros-requires c κs = search needs

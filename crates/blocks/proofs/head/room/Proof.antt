@@ -4,9 +4,6 @@ use Rattle.blocks.specs.Head.{roomOf}
 use borrow.Author.Needs.{needs}
 use Rattle.blocks.proofs.head.room.Statement.{statement}
 use Rattle.blocks.proofs.head.room.Tie as tie
-use Rattle.blocks.proofs.head.room.Reads as reads
-use Rattle.blocks.proofs.head.room.Lts as lts
-use Rattle.blocks.proofs.head.truncated.Reads as truncated-reads
 
 add-truncated : tie.Need-add-truncated
 add-truncated c = search needs

@@ -6,10 +6,6 @@ use Rattle.blocks.specs.Head.{headGiven}
 use borrow.Author.Needs.{needs}
 use Rattle.blocks.proofs.header.first_block.Statement.{statement}
 use Rattle.blocks.proofs.header.first_block.Tie as tie
-use Rattle.blocks.proofs.header.first_block.Reads as reads
-use Rattle.blocks.proofs.header.first_block.Lts as lts
-use Rattle.blocks.proofs.head.head_at.Reads as head-at-reads
-use Rattle.blocks.proofs.header.judged_header.Reads as judged-header-reads
 
 returns : tie.Need-returns
 unfolding firstOf

@@ -5,10 +5,6 @@ use Rattle.fields.proofs.Judging.{u32-value, u32-missing, u64-value, u64-missin
 use borrow.Author.Needs.{needs}
 use Rattle.blocks.proofs.header.header_fields.Statement.{statement}
 use Rattle.blocks.proofs.header.header_fields.Tie as tie
-use Rattle.blocks.proofs.header.header_fields.Reads as reads
-use Rattle.blocks.proofs.header.header_fields.Lts as lts
-use Rattle.fields.proofs.field.u32_at.Reads as u32-at-reads
-use Rattle.fields.proofs.field.u64_at.Reads as u64-at-reads
 
 u32-at-requires : tie.Need-u32-at-requires
 u32-at-requires c κs = search needs

@@ -6,11 +6,6 @@ use Rattle.blocks.proofs.Fits.{room-within}
 use borrow.Author.Needs.{needs}
 use Rattle.blocks.proofs.header.header_rest.Statement.{statement}
 use Rattle.blocks.proofs.header.header_rest.Tie as tie
-use Rattle.blocks.proofs.header.header_rest.Reads as reads
-use Rattle.blocks.proofs.header.header_rest.Lts as lts
-use Rattle.blocks.proofs.head.extent_of.Reads as extent-of-reads
-use Rattle.blocks.proofs.head.paddings.Reads as paddings-reads
-use Rattle.blocks.proofs.head.room.Reads as room-reads
 
 extent-of-requires : tie.Need-extent-of-requires
 extent-of-requires c κs = search needs

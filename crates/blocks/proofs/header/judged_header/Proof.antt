@@ -1,16 +1,10 @@
 -- Each part is judged in turn.
 use mathlib.Core.Path.{sym, _∙_, ap}
 use borrow.Author.Tests.{lt-ltb, le-ltb, eq-eqb, ne-eqb}
-use Rattle.blocks.specs.Header.{judgedOf}
-use Rattle.blocks.specs.Header.{versionGiven, fieldsGiven}
+use Rattle.blocks.specs.Header.{judgedOf, versionGiven, fieldsGiven}
 use borrow.Author.Needs.{needs}
 use Rattle.blocks.proofs.header.judged_header.Statement.{statement}
 use Rattle.blocks.proofs.header.judged_header.Tie as tie
-use Rattle.blocks.proofs.header.judged_header.Reads as reads
-use Rattle.blocks.proofs.header.judged_header.Lts as lts
-use Rattle.blocks.proofs.header.header_fields.Reads as header-fields-reads
-use Rattle.blocks.proofs.header.header_rest.Reads as header-rest-reads
-use Rattle.blocks.proofs.header.version_fields.Reads as version-fields-reads
 
 returns : tie.Need-returns
 unfolding judgedOf

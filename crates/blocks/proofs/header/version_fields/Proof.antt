@@ -7,10 +7,6 @@ use mathlib.Core.List.{[], _∷_}
 use borrow.Author.Needs.{needs}
 use Rattle.blocks.proofs.header.version_fields.Statement.{statement}
 use Rattle.blocks.proofs.header.version_fields.Tie as tie
-use Rattle.blocks.proofs.header.version_fields.Reads as reads
-use Rattle.blocks.proofs.header.version_fields.Lts as lts
-use Rattle.fields.proofs.field.u16_at.Reads as u16-at-reads
-use Rattle.fields.proofs.field.u32_at.Reads as u32-at-reads
 
 u16-at-requires : tie.Need-u16-at-requires
 u16-at-requires c κs = search needs

@@ -3,8 +3,6 @@ use Rattle.blocks.specs.Kind.{isChain}
 use borrow.Author.Needs.{needs}
 use Rattle.blocks.proofs.kind.is_chain.Statement.{statement}
 use Rattle.blocks.proofs.kind.is_chain.Tie as tie
-use Rattle.blocks.proofs.kind.is_chain.Reads as reads
-use Rattle.blocks.proofs.kind.is_chain.Lts as lts
 
 enum-known-kind : tie.Need-enum-known-kind
 enum-known-kind c = search needs

@@ -3,8 +3,6 @@ use Rattle.blocks.specs.Kind.{isContinuation}
 use borrow.Author.Needs.{needs}
 use Rattle.blocks.proofs.kind.is_continuation.Statement.{statement}
 use Rattle.blocks.proofs.kind.is_continuation.Tie as tie
-use Rattle.blocks.proofs.kind.is_continuation.Reads as reads
-use Rattle.blocks.proofs.kind.is_continuation.Lts as lts
 
 enum-told : tie.Need-enum-told
 enum-told c = search needs

@@ -1,13 +1,10 @@
 -- Each test on the type decides a case.
-use mathlib.Core.Path.{sym, _∙_, ap}
+use mathlib.Core.Path.{sym}
 use borrow.Author.Tests.{eq-eqb, ne-eqb, lt-ltb, le-ltb}
 use Rattle.blocks.specs.Kind.{kindOf}
 use borrow.Author.Needs.{needs}
 use Rattle.blocks.proofs.kind.kind_of.Statement.{statement}
 use Rattle.blocks.proofs.kind.kind_of.Tie as tie
-use Rattle.blocks.proofs.kind.kind_of.Reads as reads
-use Rattle.blocks.proofs.kind.kind_of.Lts as lts
-use Rattle.blocks.proofs.kind.class_of.Reads as class-of-reads
 
 returns : tie.Need-returns
 unfolding kindOf

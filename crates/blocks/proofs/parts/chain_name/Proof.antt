@@ -9,11 +9,6 @@ use Rattle.blocks.proofs.Fits.{head-in-within}
 use borrow.Author.Needs.{needs}
 use Rattle.blocks.proofs.parts.chain_name.Statement.{statement}
 use Rattle.blocks.proofs.parts.chain_name.Tie as tie
-use Rattle.blocks.proofs.parts.chain_name.Reads as reads
-use Rattle.blocks.proofs.parts.chain_name.Lts as lts
-use Rattle.blocks.proofs.head.extent_of.Reads as extent-of-reads
-use Rattle.blocks.proofs.parts.head_in.Reads as head-in-reads
-use Rattle.fields.proofs.name.name_part.Reads as name-part-reads
 
 head-in-requires : tie.Need-head-in-requires
 head-in-requires c κs = search needs

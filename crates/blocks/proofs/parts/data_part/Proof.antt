@@ -7,10 +7,6 @@ use Rattle.blocks.proofs.Fits.{head-in-within}
 use borrow.Author.Needs.{needs}
 use Rattle.blocks.proofs.parts.data_part.Statement.{statement}
 use Rattle.blocks.proofs.parts.data_part.Tie as tie
-use Rattle.blocks.proofs.parts.data_part.Reads as reads
-use Rattle.blocks.proofs.parts.data_part.Lts as lts
-use Rattle.blocks.proofs.parts.head_in.Reads as head-in-reads
-use Rattle.fields.proofs.field.bytes_at.Reads as bytes-at-reads
 
 head-in-requires : tie.Need-head-in-requires
 head-in-requires c κs = search needs

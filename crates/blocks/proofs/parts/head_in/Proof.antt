@@ -4,9 +4,6 @@ use Rattle.blocks.specs.Parts.{headIn}
 use borrow.Author.Needs.{needs}
 use Rattle.blocks.proofs.parts.head_in.Statement.{statement}
 use Rattle.blocks.proofs.parts.head_in.Tie as tie
-use Rattle.blocks.proofs.parts.head_in.Reads as reads
-use Rattle.blocks.proofs.parts.head_in.Lts as lts
-use Rattle.blocks.proofs.head.head_at.Reads as head-at-reads
 
 returns : tie.Need-returns
 unfolding headIn

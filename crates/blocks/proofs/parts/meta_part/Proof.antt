@@ -1,17 +1,11 @@
 -- The leading numbers decide the part.
 use mathlib.Core.Path.{sym, _∙_, ap}
-use native.Mathlib.Omega.{arith}
 use Rattle.blocks.specs.Parts.{metaPart}
 use Rattle.blocks.specs.Head.{headGiven}
 use Rattle.blocks.proofs.Fits.{head-in-within}
 use borrow.Author.Needs.{needs}
 use Rattle.blocks.proofs.parts.meta_part.Statement.{statement}
 use Rattle.blocks.proofs.parts.meta_part.Tie as tie
-use Rattle.blocks.proofs.parts.meta_part.Reads as reads
-use Rattle.blocks.proofs.parts.meta_part.Lts as lts
-use Rattle.blocks.proofs.head.extent_of.Reads as extent-of-reads
-use Rattle.blocks.proofs.parts.head_in.Reads as head-in-reads
-use Rattle.fields.proofs.field.bytes_at.Reads as bytes-at-reads
 
 head-in-requires : tie.Need-head-in-requires
 head-in-requires c κs = search needs

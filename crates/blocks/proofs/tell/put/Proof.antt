@@ -4,8 +4,6 @@ use mathlib.Core.Path.{sym}
 use borrow.Author.Needs.{needs}
 use Rattle.blocks.proofs.tell.put.Statement.{statement}
 use Rattle.blocks.proofs.tell.put.Tie as tie
-use Rattle.blocks.proofs.tell.put.Reads as reads
-use Rattle.blocks.proofs.tell.put.Lts as lts
 
 mul-table : tie.Need-mul-table
 mul-table c = search needs

@@ -7,11 +7,6 @@ use Rattle.text.proofs.Widths.{decimal-length, hex-length}
 use borrow.Author.Needs.{needs}
 use Rattle.blocks.proofs.tell.put_line.Statement.{statement}
 use Rattle.blocks.proofs.tell.put_line.Tie as tie
-use Rattle.blocks.proofs.tell.put_line.Reads as reads
-use Rattle.blocks.proofs.tell.put_line.Lts as lts
-use Rattle.text.proofs.line.put_decimal.Reads as put-decimal-reads
-use Rattle.text.proofs.line.put_hex.Reads as put-hex-reads
-use Rattle.text.proofs.line.put_word.Reads as put-word-reads
 
 slice-aggregate-put-word : tie.Need-slice-aggregate-put-word
 slice-aggregate-put-word c = search needs

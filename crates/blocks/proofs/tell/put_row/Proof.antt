@@ -4,9 +4,6 @@ use Rattle.blocks.proofs.Stores.{plus-two, plus-three, plus-four}
 use borrow.Author.Needs.{needs}
 use Rattle.blocks.proofs.tell.put_row.Statement.{statement}
 use Rattle.blocks.proofs.tell.put_row.Tie as tie
-use Rattle.blocks.proofs.tell.put_row.Reads as reads
-use Rattle.blocks.proofs.tell.put_row.Lts as lts
-use Rattle.blocks.proofs.tell.put.Reads as put-reads
 
 mul-at : tie.Need-mul-at
 mul-at c = search needs

@@ -1,19 +1,13 @@
 -- The row, and where lines are asked for the line.
-use mathlib.Core.Path.{sym, _∙_, ap}
+use mathlib.Core.Path.{ap, _≡_, refl}
 use native.Mathlib.Omega.{arith}
-use mathlib.Core.Path.{_≡_, refl}
 use Prim.Native.Nat.{ℕ, _+_}
 use Rattle.blocks.specs.declared.tell.Told.{Told}
 use Rattle.blocks.proofs.Lines.{bytes-short}
 use mathlib.Core.Bool.{true}
-use Rattle.blocks.specs.Told.{bytesOf}
 use borrow.Author.Needs.{needs}
 use Rattle.blocks.proofs.tell.tell.Statement.{statement}
 use Rattle.blocks.proofs.tell.tell.Tie as tie
-use Rattle.blocks.proofs.tell.tell.Reads as reads
-use Rattle.blocks.proofs.tell.tell.Lts as lts
-use Rattle.blocks.proofs.tell.put_line.Reads as put-line-reads
-use Rattle.blocks.proofs.tell.put_row.Reads as put-row-reads
 
 -- so much told
 toldAt : ℕ → ℕ → Told

@@ -1,7 +1,7 @@
 -- The invariant is one equation: what was to be told at the call is what is still to be told. Each turn takes it one step on by a law
 -- of Turns; the call of the walk itself, with one level less, is one of these steps.
 use Prim.Native.Nat.{ℕ, _+_, _-_, _*_, _<_, _≤_}
-use mathlib.Core.Bool.{Bool, true, false}
+use mathlib.Core.Bool.{Bool, false}
 use mathlib.Core.Logic.{⊎-elim}
 use mathlib.Core.List.{List}
 use mathlib.Core.Path.{_≡_, refl, ap, sym, _∙_, subst}
@@ -11,19 +11,17 @@ use borrow.Fn.Kinds.{In}
 use borrow.Fn.PlainCycle.{Measures, is, falls, and}
 use lib.ListN.{length}
 use lib.Seq.{length-take-le}
-use Rattle.fields.specs.Numbers.{badChain}
 use Rattle.fields.specs.Judged.{done}
 use Rattle.blocks.specs.Padding.{checkGiven}
-use Rattle.blocks.specs.Kind.{isChain, isContinuation}
+use Rattle.blocks.specs.Kind.{isContinuation}
 use Rattle.blocks.specs.Chain.{inChain}
 use Rattle.blocks.specs.Block.{blockAt, blockGiven}
 use Rattle.blocks.specs.Walk.{Outcome, andThen, insideOf, walkOf}
-use Rattle.blocks.specs.Told.{Stored, stored, walkedGiven, ToldFits}
+use Rattle.blocks.specs.Inside.{Stored, stored, answerOf, walkedGiven, ToldFits}
 use Rattle.blocks.specs.declared.block.Block.{Block}
-use Rattle.blocks.specs.declared.tell.Told.{Told}
 use Rattle.blocks.specs.declared.walk.Walked.the-variants.{Done}
 use Rattle.blocks.proofs.Fits.{BlockFits, block-fits}
-use Rattle.blocks.proofs.Turns.{Answered, Short, told-short, restOf, file-ended, block-refused, block-told, all-walked, not-filled, chain-walked, chain-refused, no-chain, paddings-fine, paddings-refused, answer-done, answer-refused, refused-fits}
+use Rattle.blocks.proofs.Turns.{Short, told-short, restOf, file-ended, block-refused, block-told, all-walked, filled-fits, chain-walked, chain-refused, no-chain, paddings-fine, paddings-refused, answer-done, answer-refused, refused-fits}
 use Rattle.blocks.proofs.walk.walk.Reads as walk
 use Rattle.blocks.proofs.walk.walk.Kinds as walk-kinds
 use Rattle.blocks.proofs.walk.+walk.Lts-walk as walk-lts
@@ -33,6 +31,7 @@ use Rattle.blocks.proofs.kind.is_chain.Reads as is-chain-reads
 use Rattle.blocks.proofs.kind.is_continuation.Reads as is-continuation-reads
 use Rattle.blocks.proofs.tell.tell.Reads as tell-reads
 use Rattle.blocks.proofs.walk.file_ends.Reads as file-ends-reads
+use Rattle.blocks.proofs.walk.filled.Reads as filled-reads
 use Rattle.blocks.proofs.walk.row_of.Reads as row-of-reads
 use Rattle.blocks.proofs.walk.walked_in_chain.Reads as walked-in-chain-reads
 use Rattle.blocks.proofs.walk.+walk.{statement}
@@ -68,6 +67,8 @@ claims t = (
   paddings-reads.Learnt,
   is-continuation-reads.Asked,
   is-continuation-reads.Learnt,
+  filled-reads.Asked,
+  filled-reads.Learnt,
 )
 
 abbrev walk-Inv-loop : walk-lts.InvT-loop
@@ -298,6 +299,9 @@ walk-loop-again t c =
           ∙ ap (λ (k : Bool). stored (c .before .before .before .before .if2 .table) (c .before .before .before .before .if2 .text) (c .before .before .before .before .if2 .told) (lines t (c .before .before .before .before .before)) (walkOf (levels-left t (c .before .before .before .before .before)) (c .before .before .before .before .before .before .before .before .before .before .before .before .before .before .before .before .before .before .before .before .before .before .loop .left - 1) (file t (c .before .before .before .before .before)) (block t (c .before .before .before .before .before) .extent .next) k)) (sym (c .is-continuation .ensures)),
     )
 
+walk-filled-requires : (t : ℕ) → walk-lts.Need-filled-requires (claims t) (walk-at t) walk.Post walk-Inv-loop walk-μ-loop
+walk-filled-requires t c κs = search needs
+
 walk-same-length-9 : (t : ℕ) → walk-lts.Need-same-length-9 (claims t) (walk-at t) walk.Post walk-Inv-loop walk-μ-loop
 walk-same-length-9 t c = c .before .before .loop .inv .3
 
@@ -306,19 +310,18 @@ walk-same-length-10 t c = c .before .before .loop .inv .4
 
 walk-returns-5 : (t : ℕ) → walk-lts.Need-returns-5 (claims t) (walk-at t) walk.Post walk-Inv-loop walk-μ-loop
 walk-returns-5 t c =
-    let q = answer-done _ (c .before .before .loop .table) (c .before .before .loop .text) (c .before .before .loop .told) (c .before .before .before .before .before .before .args .lines) (c .before .before .loop .inv .5 ∙ all-walked (c .before .before .before .before .before .before .args .s .now) (c .before .before .before .before .before .before .args .remaining) (c .before .before .before .before .before .before .args .lines) (c .before .before .loop .table) (c .before .before .loop .text) (c .before .before .loop .told) (c .before .before .loop .left) (c .before .before .loop .at) (c .before .before .loop .continued) (c .before .loop-test .left) (c .if3 .taken)) in
-    (q .answer, (q .in-table, (q .in-text, (omega arith, omega arith))))
-
-walk-same-length-11 : (t : ℕ) → walk-lts.Need-same-length-11 (claims t) (walk-at t) walk.Post walk-Inv-loop walk-μ-loop
-walk-same-length-11 t c = c .before .before .loop .inv .3
-
-walk-same-length-12 : (t : ℕ) → walk-lts.Need-same-length-12 (claims t) (walk-at t) walk.Post walk-Inv-loop walk-μ-loop
-walk-same-length-12 t c = c .before .before .loop .inv .4
-
-walk-returns-6 : (t : ℕ) → walk-lts.Need-returns-6 (claims t) (walk-at t) walk.Post walk-Inv-loop walk-μ-loop
-walk-returns-6 t c =
-    let q = answer-refused _ (c .before .before .loop .table) (c .before .before .loop .text) (c .before .before .loop .told) (c .before .before .before .before .before .before .args .lines) (record { number = badChain; place = c .before .before .loop .at }) (c .before .before .loop .inv .5 ∙ not-filled (c .before .before .before .before .before .before .args .s .now) (c .before .before .before .before .before .before .args .remaining) (c .before .before .before .before .before .before .args .lines) (c .before .before .loop .table) (c .before .before .loop .text) (c .before .before .loop .told) (c .before .before .loop .left) (c .before .before .loop .at) (c .before .before .loop .continued) (c .before .loop-test .left) (c .if3 .left)) in
-    (q .answer, (q .in-table, (q .in-text, tt)))
+    let l = c .before .before .loop in
+    let q = all-walked (c .before .before .before .before .before .before .args .s .now) (c .before .before .before .before .before .before .args .remaining) (c .before .before .before .before .before .before .args .lines) (c .before .before .loop .table) (c .before .before .loop .text) (c .before .before .loop .told) (c .before .before .loop .left) (c .before .before .loop .at) (c .before .before .loop .continued) (c .filled .result) (c .before .loop-test .left) (c .filled .ensures) in
+    let e = l .inv .5 in (
+      q .answer ∙ ap answerOf (sym e),
+      (
+        q .in-table ∙ ap (λ (r : Stored). r .table) (sym e),
+        (
+          q .in-text ∙ ap (λ (r : Stored). r .text) (sym e),
+          filled-fits _ (l .at) (c .filled .result) (l .told) (c .filled .ensures) (omega arith) (omega arith),
+        ),
+      ),
+    )
 
 pub +walk-spec : {M : Type 1} → statement M
 +walk-spec =
@@ -358,9 +361,7 @@ pub +walk-spec : {M : Type 1} → statement M
     (walk-is-continuation-requires t)
     (walk-loop-less t)
     (walk-loop-again t)
+    (walk-filled-requires t)
     (walk-same-length-9 t)
     (walk-same-length-10 t)
     (walk-returns-5 t)
-    (walk-same-length-11 t)
-    (walk-same-length-12 t)
-    (walk-returns-6 t)

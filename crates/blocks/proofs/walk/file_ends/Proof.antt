@@ -1,11 +1,8 @@
 -- Each test decides.
 use borrow.Author.Tests.{eq-eqb, ne-eqb}
 use Rattle.blocks.specs.Walk.{fileEnds}
-use borrow.Author.Needs.{needs}
 use Rattle.blocks.proofs.walk.file_ends.Statement.{statement}
 use Rattle.blocks.proofs.walk.file_ends.Tie as tie
-use Rattle.blocks.proofs.walk.file_ends.Reads as reads
-use Rattle.blocks.proofs.walk.file_ends.Lts as lts
 
 returns : tie.Need-returns
 unfolding fileEnds

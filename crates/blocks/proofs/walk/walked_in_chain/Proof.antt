@@ -1,13 +1,9 @@
 -- Each case is handed on.
-use mathlib.Core.Path.{sym, _∙_, ap}
+use mathlib.Core.Path.{ap}
 use Rattle.fields.specs.Judged.{refusedBy}
-use Rattle.blocks.specs.Told.{walkedGiven}
 use borrow.Author.Needs.{needs}
 use Rattle.blocks.proofs.walk.walked_in_chain.Statement.{statement}
 use Rattle.blocks.proofs.walk.walked_in_chain.Tie as tie
-use Rattle.blocks.proofs.walk.walked_in_chain.Reads as reads
-use Rattle.blocks.proofs.walk.walked_in_chain.Lts as lts
-use Rattle.blocks.proofs.chain.in_chain.Reads as in-chain-reads
 
 enum-known-inner : tie.Need-enum-known-inner
 enum-known-inner c = search needs

@@ -1,5 +1,5 @@
 -- The test for room decides between the part and none.
-use mathlib.Core.Path.{sym, _∙_, ap}
+use mathlib.Core.Path.{sym, _∙_}
 use Prim.Native.Nat.{_+_}
 use native.Mathlib.Omega.{arith}
 use lib.ListN.{length}
@@ -9,9 +9,6 @@ use Rattle.fields.specs.Field.{bytesAt}
 use borrow.Author.Needs.{needs}
 use Rattle.fields.proofs.field.bytes_at.Statement.{statement}
 use Rattle.fields.proofs.field.bytes_at.Tie as tie
-use Rattle.fields.proofs.field.bytes_at.Reads as reads
-use Rattle.fields.proofs.field.bytes_at.Lts as lts
-use Rattle.fields.proofs.field.passes.Reads as passes-reads
 
 passes-requires : tie.Need-passes-requires
 passes-requires c κs = search needs

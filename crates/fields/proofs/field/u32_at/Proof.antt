@@ -1,15 +1,11 @@
 -- The test for room decides between the value and what is missing.
-use mathlib.Core.Path.{sym, _∙_, ap}
+use mathlib.Core.Path.{sym, _∙_}
 use native.Mathlib.Omega.{arith}
 use borrow.Author.Tests.{ltb-false}
 use Rattle.fields.specs.Field.{fieldAt, u32Given}
 use borrow.Author.Needs.{needs}
 use Rattle.fields.proofs.field.u32_at.Statement.{statement}
 use Rattle.fields.proofs.field.u32_at.Tie as tie
-use Rattle.fields.proofs.field.u32_at.Reads as reads
-use Rattle.fields.proofs.field.u32_at.Lts as lts
-use Rattle.fields.proofs.field.passes.Reads as passes-reads
-use Rattle.fields.proofs.field.value_at.Reads as value-at-reads
 
 passes-requires : tie.Need-passes-requires
 passes-requires c κs = search needs

@@ -6,9 +6,6 @@ use Rattle.fields.specs.Field.{littleEndian}
 use Rattle.fields.proofs.Bytes.{zero-bytes, below-seven, step, all-bytes}
 use Rattle.fields.proofs.field.value_at.Statement.{statement}
 use Rattle.fields.proofs.field.value_at.Tie as tie
-use Rattle.fields.proofs.field.value_at.Reads as reads
-use Rattle.fields.proofs.field.value_at.Lts as lts
-use Rattle.fields.proofs.field.wide.Reads as wide-reads
 
 abbrev Inv-loop : tie.InvT-loop
 Inv-loop s at width value₀ i₀ value i = (i ≤ width) × (value ≡ littleEndian (width - i) s (at + i)) × (value < 256 ^ (width - i))

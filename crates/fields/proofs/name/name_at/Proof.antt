@@ -5,9 +5,6 @@ use Rattle.fields.proofs.Judging.{string-size, string-missing}
 use borrow.Author.Needs.{needs}
 use Rattle.fields.proofs.name.name_at.Statement.{statement}
 use Rattle.fields.proofs.name.name_at.Tie as tie
-use Rattle.fields.proofs.name.name_at.Reads as reads
-use Rattle.fields.proofs.name.name_at.Lts as lts
-use Rattle.fields.proofs.name.string_at.Reads as string-at-reads
 
 string-at-requires : tie.Need-string-at-requires
 string-at-requires c κs = search needs

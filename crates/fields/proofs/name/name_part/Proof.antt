@@ -5,10 +5,6 @@ use Rattle.fields.proofs.Judging.{name-size, name-missing, name-long, n
 use borrow.Author.Needs.{needs}
 use Rattle.fields.proofs.name.name_part.Statement.{statement}
 use Rattle.fields.proofs.name.name_part.Tie as tie
-use Rattle.fields.proofs.name.name_part.Reads as reads
-use Rattle.fields.proofs.name.name_part.Lts as lts
-use Rattle.fields.proofs.field.bytes_at.Reads as bytes-at-reads
-use Rattle.fields.proofs.name.name_at.Reads as name-at-reads
 
 name-at-requires : tie.Need-name-at-requires
 name-at-requires c κs = search needs

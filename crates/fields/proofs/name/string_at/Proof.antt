@@ -1,15 +1,10 @@
 -- The length is read, and then the bytes are tested for room.
-use mathlib.Core.Path.{sym, _∙_, ap}
-use Rattle.fields.specs.Field.{fieldAt}
+use mathlib.Core.Path.{sym, _∙_}
 use Rattle.fields.specs.Name.{stringAt, stringGiven}
 use Rattle.fields.proofs.Judging.{u16-value, u16-missing}
 use borrow.Author.Needs.{needs}
 use Rattle.fields.proofs.name.string_at.Statement.{statement}
 use Rattle.fields.proofs.name.string_at.Tie as tie
-use Rattle.fields.proofs.name.string_at.Reads as reads
-use Rattle.fields.proofs.name.string_at.Lts as lts
-use Rattle.fields.proofs.field.passes.Reads as passes-reads
-use Rattle.fields.proofs.field.u16_at.Reads as u16-at-reads
 
 u16-at-requires : tie.Need-u16-at-requires
 u16-at-requires c κs = search needs

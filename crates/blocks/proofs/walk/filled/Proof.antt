@@ -1,0 +1,13 @@
+-- The test decides.
+use borrow.Author.Tests.{eq-eqb, ne-eqb}
+use Rattle.blocks.proofs.walk.filled.Statement.{statement}
+use Rattle.blocks.proofs.walk.filled.Tie as tie
+
+returns : tie.Need-returns
+returns c = simp (eq-eqb _ _ (c .if1 .taken))
+
+returns-2 : tie.Need-returns-2
+returns-2 c = simp (ne-eqb _ _ (c .if1 .left))
+
+pub filled-spec : {M : Type 1} → statement M
+filled-spec = tie.close (tie.spec returns returns-2)
