@@ -15,7 +15,7 @@ use Rattle.fields.specs.declared.numbers.Refusal.{Refusal}
 use Rattle.fields.proofs.Judging.{value-before, refusal-before, passed}
 use Rattle.blocks.specs.Kind.{headerType}
 use Rattle.blocks.specs.Head.{headAt, extentOf, roomOf, paddingsOf}
-use Rattle.blocks.specs.Header.{headerData, versionOf, fieldsOf, restOf, judgedOf, firstOf}
+use Rattle.blocks.specs.Header.{headerData, headerEnd, versionOf, fieldsOf, restOf, judgedOf, firstOf}
 use Rattle.blocks.specs.Block.{levels}
 use Rattle.blocks.specs.Walk.{rowOf, walkOf, ends}
 use Rattle.blocks.specs.Told.{rowWidth, rowWords, allOf}
@@ -54,7 +54,7 @@ first-fits s first e =
     let head = value-before (headAt s 0) _ first (size .1) in
     let type = chosen (eqb (head .0 .number) headerType) _ badHeader 0 first (head .2) in
     let bytes = chosen (eqb (head .0 .«data_size») headerData) _ badHeader 4 first (type .1) in
-    let room = passed (ltb (length s) 36) truncated 12 _ first (bytes .1) in
+    let room = passed (ltb (length s) headerEnd) truncated 12 _ first (bytes .1) in
     let version = value-before (versionOf s) _ first (room .1) in
     let fields = value-before (fieldsOf s (version .0)) _ first (version .2) in
     let w = rest-next s (head .0) first (fields .0) (fields .2) in

@@ -1,6 +1,6 @@
 -- The first block (01, "Blocks"; clause 9.4.1): "judged: the 12 bytes, type and data size (2, never 6), room for its data (1), major
 -- version (2), 4, 3, then room for the rest (1) and paddings."
-use Prim.Native.Nat.{ℕ}
+use Prim.Native.Nat.{ℕ, _+_}
 use mathlib.Core.List.{List, [], _∷_}
 use lib.Dec.{eqb, ltb}
 use lib.ListN.{length}
@@ -18,8 +18,12 @@ use Rattle.blocks.specs.declared.header.FieldsAnswer as fields
 use Rattle.blocks.specs.declared.header.First.{First}
 use Rattle.blocks.specs.declared.header.FirstBlock as first
 
+-- the bytes of its data, and where they end
 abbrev pub headerData : ℕ
 headerData = 24
+
+abbrev pub headerEnd : ℕ
+headerEnd = 12 + headerData
 
 -- the profiles without a bit other than 0x2 and 0x8
 abbrev pub profiles : List ℕ
@@ -64,7 +68,7 @@ unfoldable pub judgedOf : List ℕ → Head → Judged First
 judgedOf s head =
     pick (eqb (head .number) headerType)
     (pick (eqb (head .«data_size») headerData)
-    (refusedIf (ltb (length s) 36) truncated 12
+    (refusedIf (ltb (length s) headerEnd) truncated 12
     (onDone (versionOf s) λ version.
     onDone (fieldsOf s version) λ fields.
     restOf s head fields))

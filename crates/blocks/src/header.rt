@@ -23,8 +23,10 @@ use fields::numbers::TRUNCATED;
 ghost use mathlib.Core.Path.{_≡_};
 ghost use Rattle.blocks.specs.Header.{versionOf, versionGiven, fieldsOf, fieldsGiven, restOf, judgedOf, firstOf, firstGiven};
 
-// Bytes of the header's data.
+// Bytes of the header's data, and where it ends.
 pub const HEADER_DATA: u32 = 24;
+
+pub const HEADER_END: usize = 36;
 
 // The header's fields after its major version, which is 0.
 pub struct FileHeader {
@@ -173,7 +175,7 @@ fn judged_header(s: &[u8], head: Head) -> FirstBlock
             place: 4,
         });
     }
-    if s.len() < 36 {
+    if s.len() < HEADER_END {
         return FirstBlock::Refused(Refusal {
             number: TRUNCATED,
             place: 12,
