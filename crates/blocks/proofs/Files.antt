@@ -52,7 +52,7 @@ unfolding firstOf judgedOf
 first-fits s first e =
     let size = passed (ltb largestFile (length s)) overLimit 0 _ first e in
     let head = value-before (headAt s 0) _ first (size .1) in
-    let type = chosen (eqb (head .0 .number) headerType) _ badHeader 0 first (head .2) in
+    let type = chosen (eqb (head .0 .«block_type») headerType) _ badHeader 0 first (head .2) in
     let bytes = chosen (eqb (head .0 .«data_size») headerData) _ badHeader 4 first (type .1) in
     let room = passed (ltb (length s) headerEnd) truncated 12 _ first (bytes .1) in
     let version = value-before (versionOf s) _ first (room .1) in

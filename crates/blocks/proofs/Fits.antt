@@ -160,7 +160,7 @@ pub block-fits : (s : List ℕ) (at remaining : ℕ) (continued : Bool) (b : Blo
 unfolding blockAt judgedAt
 block-fits s at remaining continued b e =
     let h = value-before (headAt s at) _ b e in
-    let kind = kindOf (h .0 .number) in
+    let kind = kindOf (h .0 .«block_type») in
     let extent = extentOf at (h .0) in
     let stands = chosen (eqb (standingOf kind remaining continued) 0) _ (standingOf kind remaining continued) at b (h .2) in
     let room = value-before (roomOf (length s) at extent) _ b (stands .1) in

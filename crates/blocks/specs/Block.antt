@@ -9,7 +9,7 @@ use Rattle.fields.specs.Numbers.{unknownType, outOfOrder, badChain, overLimit}
 use Rattle.fields.specs.Limits.{largestFile}
 use Rattle.fields.specs.Judged.{Judged, done, refused, refusedBy, onDone, refusedIf, pick}
 use Rattle.blocks.specs.Kind.{chainType, kindOf, isChain}
-use Rattle.blocks.specs.Head.{headAt, extentOf, roomOf}
+use Rattle.blocks.specs.Head.{headSize, headAt, extentOf, roomOf}
 use Rattle.blocks.specs.Chain.{inChain, chainAt}
 use Rattle.blocks.specs.declared.kind.Kind.{Kind}
 use Rattle.blocks.specs.declared.kind.Kind.the-variants.{Header, Declaration, Continuation, Unknown}
@@ -29,9 +29,9 @@ levels = 4
 unfoldable pub standingOf : Kind → ℕ → Bool → ℕ
 standingOf Unknown remaining continued = unknownType
 standingOf Header remaining continued = outOfOrder
-standingOf (Continuation number) remaining continued = pick (eqb remaining levels) 0 outOfOrder
-standingOf (Declaration number) remaining continued =
-    pick continued outOfOrder (pick (eqb number chainType) (pick (eqb remaining 0) badChain 0) 0)
+standingOf (Continuation blockType) remaining continued = pick (eqb remaining levels) 0 outOfOrder
+standingOf (Declaration blockType) remaining continued =
+    pick continued outOfOrder (pick (eqb blockType chainType) (pick (eqb remaining 0) badChain 0) 0)
 
 abbrev pub blockOf : Kind → Head → Extent → Run → Block
 blockOf kind head extent contents = record { kind = kind; head = head; extent = extent; contents = contents }
@@ -40,13 +40,13 @@ blockOf kind head extent contents = record { kind = kind; head = head; extent = 
 unfoldable pub contentsAt : List ℕ → ℕ → Kind → Head → Extent → Judged Block
 contentsAt s at kind head extent =
     pick (isChain kind)
-    (onDone (inChain (chainAt (take (extent .«data_end») s) (at + 12))) λ run. done (blockOf kind head extent run))
+    (onDone (inChain (chainAt (take (extent .«data_end») s) (at + headSize))) λ run. done (blockOf kind head extent run))
     (done (blockOf kind head extent (record { at = extent .«data_end»; count = 0 })))
 
 -- the block with those leading numbers
 unfoldable pub judgedAt : List ℕ → ℕ → Head → ℕ → Bool → Judged Block
 judgedAt s at head remaining continued =
-    let kind = kindOf (head .number) in
+    let kind = kindOf (head .«block_type») in
     let extent = extentOf at head in
     pick (eqb (standingOf kind remaining continued) 0)
     (onDone (roomOf (length s) at extent) λ _. contentsAt s at kind head extent)

@@ -12,27 +12,31 @@ use Rattle.blocks.specs.declared.head.HeadAnswer.{HeadAnswer}
 use Rattle.blocks.specs.declared.head.HeadAnswer.the-variants.{Found, Refused}
 use Rattle.blocks.specs.declared.head.Extent.{Extent}
 
+-- the bytes of the three numbers
+abbrev pub headSize : ℕ
+headSize = 12
+
 -- the three numbers at `at`
 unfoldable pub headAt : List ℕ → ℕ → Judged Head
 headAt s at =
-    onDone (fieldAt 4 s at) λ number.
+    onDone (fieldAt 4 s at) λ blockType.
     onDone (fieldAt 4 s (at + 4)) λ dataSize.
     onDone (fieldAt 4 s (at + 8)) λ metaSize.
-    done (record { number = number; «data_size» = dataSize; «meta_size» = metaSize })
+    done (record { «block_type» = blockType; «data_size» = dataSize; «meta_size» = metaSize })
 
 -- where the parts of the block at `at` end: data, its padding, meta data, its padding
 unfoldable pub extentOf : ℕ → Head → Extent
 extentOf at head = record {
-  «data_end» = at + 12 + head .«data_size»;
-  «meta_at» = at + 12 + alignedTo (head .«data_size»);
-  «meta_end» = at + 12 + alignedTo (head .«data_size») + head .«meta_size»;
-  next = at + 12 + alignedTo (head .«data_size») + alignedTo (head .«meta_size»);
+  «data_end» = at + headSize + head .«data_size»;
+  «meta_at» = at + headSize + alignedTo (head .«data_size»);
+  «meta_end» = at + headSize + alignedTo (head .«data_size») + head .«meta_size»;
+  next = at + headSize + alignedTo (head .«data_size») + alignedTo (head .«meta_size»);
 }
 
 -- "room for the rest (1)": the first part that passes the end of `len` bytes, at its start
 unfoldable pub roomOf : ℕ → ℕ → Extent → Judged (Unit {0})
 roomOf len at e =
-    refusedIf (ltb len (e .«data_end»)) truncated (at + 12)
+    refusedIf (ltb len (e .«data_end»)) truncated (at + headSize)
     (refusedIf (ltb len (e .«meta_at»)) truncated (e .«data_end»)
     (refusedIf (ltb len (e .«meta_end»)) truncated (e .«meta_at»)
     (refusedIf (ltb len (e .next)) truncated (e .«meta_end») fine)))

@@ -9,7 +9,7 @@ use Rattle.fields.specs.Limits.{largestFile}
 use Rattle.fields.specs.Judged.{Judged, done, refused, refusedBy, onDone, refusedIf, pick}
 use Rattle.fields.specs.Field.{fieldAt}
 use Rattle.blocks.specs.Kind.{member, headerType}
-use Rattle.blocks.specs.Head.{headAt, extentOf, roomOf, paddingsOf}
+use Rattle.blocks.specs.Head.{headSize, headAt, extentOf, roomOf, paddingsOf}
 use Rattle.blocks.specs.declared.head.Head.{Head}
 use Rattle.blocks.specs.declared.header.FileHeader.{FileHeader}
 use Rattle.blocks.specs.declared.header.Version.{Version}
@@ -23,7 +23,7 @@ abbrev pub headerData : ℕ
 headerData = 24
 
 abbrev pub headerEnd : ℕ
-headerEnd = 12 + headerData
+headerEnd = headSize + headerData
 
 -- the profiles without a bit other than 0x2 and 0x8
 abbrev pub profiles : List ℕ
@@ -66,7 +66,7 @@ restOf s head fields =
 
 unfoldable pub judgedOf : List ℕ → Head → Judged First
 judgedOf s head =
-    pick (eqb (head .number) headerType)
+    pick (eqb (head .«block_type») headerType)
     (pick (eqb (head .«data_size») headerData)
     (refusedIf (ltb (length s) headerEnd) truncated 12
     (onDone (versionOf s) λ version.

@@ -36,21 +36,21 @@ classOf last = pick (member last declarations) 1 (pick (member last continuation
 
 -- the kind of a block type
 unfoldable pub kindOf : ℕ → Kind
-kindOf number =
-    pick (eqb number headerType) Header
-    (pick (ltb number knownTypes) Unknown
-    (let class = classOf (number - knownTypes) in
-    pick (eqb class 1) (Declaration number) (pick (eqb class 2) (Continuation number) Unknown)))
+kindOf blockType =
+    pick (eqb blockType headerType) Header
+    (pick (ltb blockType knownTypes) Unknown
+    (let class = classOf (blockType - knownTypes) in
+    pick (eqb class 1) (Declaration blockType) (pick (eqb class 2) (Continuation blockType) Unknown)))
 
 -- a chain is the declaration 0xFFFFFF14
 unfoldable pub isChain : Kind → Bool
 isChain Header = false
-isChain (Declaration number) = eqb number chainType
-isChain (Continuation number) = false
+isChain (Declaration blockType) = eqb blockType chainType
+isChain (Continuation blockType) = false
 isChain Unknown = false
 
 unfoldable pub isContinuation : Kind → Bool
 isContinuation Header = false
-isContinuation (Declaration number) = false
-isContinuation (Continuation number) = true
+isContinuation (Declaration blockType) = false
+isContinuation (Continuation blockType) = true
 isContinuation Unknown = false

@@ -10,7 +10,7 @@ use Rattle.fields.specs.Judged.{Judged, done, refused, refusedIf, pick}
 use Rattle.fields.specs.Field.{bytesAt}
 use Rattle.fields.specs.Name.{namePart}
 use Rattle.blocks.specs.Kind.{chainType}
-use Rattle.blocks.specs.Head.{headAt, extentOf}
+use Rattle.blocks.specs.Head.{headSize, headAt, extentOf}
 use Rattle.blocks.specs.declared.head.Head.{Head}
 
 -- the leading numbers at `at` of a file
@@ -22,7 +22,7 @@ partOf (done head) part = part head
 partOf (refused n p) part = []
 
 unfoldable pub dataPart : List ℕ → ℕ → List ℕ
-dataPart s at = partOf (headIn s at) λ head. bytesAt s (at + 12) (head .«data_size»)
+dataPart s at = partOf (headIn s at) λ head. bytesAt s (at + headSize) (head .«data_size»)
 
 unfoldable pub metaPart : List ℕ → ℕ → List ℕ
 metaPart s at = partOf (headIn s at) λ head. bytesAt s (extentOf at head .«meta_at») (head .«meta_size»)
@@ -31,6 +31,6 @@ metaPart s at = partOf (headIn s at) λ head. bytesAt s (extentOf at head .«met
 unfoldable pub chainName : List ℕ → ℕ → List ℕ
 chainName s at =
     partOf (headIn s at) λ head.
-    pick (eqb (head .number) chainType)
-    (pick (ltb (length s) (extentOf at head .«data_end»)) [] (namePart (take (extentOf at head .«data_end») s) (at + 12)))
+    pick (eqb (head .«block_type») chainType)
+    (pick (ltb (length s) (extentOf at head .«data_end»)) [] (namePart (take (extentOf at head .«data_end») s) (at + headSize)))
     []

@@ -8,7 +8,7 @@ abbrev pub rowWidth : ℕ
 rowWidth = 5
 
 abbrev pub rowWords : Row → List ℕ
-rowWords row = row .offset ∷ row .number ∷ row .«data_size» ∷ row .«meta_size» ∷ row .depth ∷ []
+rowWords row = row .offset ∷ row .«block_type» ∷ row .«data_size» ∷ row .«meta_size» ∷ row .depth ∷ []
 
 abbrev pub tab : ℕ
 tab = 9
@@ -22,7 +22,7 @@ blockWord = 0x62 ∷ 0x6c ∷ 0x6f ∷ 0x63 ∷ 0x6b ∷ tab ∷ []
 
 unfoldable pub lineOf : Row → List ℕ
 lineOf row =
-    blockWord ++ decimalField (row .offset) tab ++ hexField (row .number) tab ++ decimalField (row .«data_size») tab
+    blockWord ++ decimalField (row .offset) tab ++ hexField (row .«block_type») tab ++ decimalField (row .«data_size») tab
     ++ decimalField (row .«meta_size») tab ++ decimalField (row .depth) lineFeed
 
 -- one after the other

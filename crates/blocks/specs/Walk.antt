@@ -19,7 +19,7 @@ use Rattle.blocks.specs.declared.tell.Row.{Row}
 abbrev pub rowOf : ℕ → Head → ℕ → Row
 rowOf at head depth = record {
   offset = at;
-  number = head .number;
+  «block_type» = head .«block_type»;
   «data_size» = head .«data_size»;
   «meta_size» = head .«meta_size»;
   depth = depth;

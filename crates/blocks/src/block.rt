@@ -4,6 +4,7 @@ use crate::chain::RunAnswer;
 use crate::chain::chain_at;
 use crate::chain::in_chain;
 use crate::head::Extent;
+use crate::head::HEAD_SIZE;
 use crate::head::Head;
 use crate::head::HeadAnswer;
 use crate::head::extent_of;
@@ -24,6 +25,7 @@ ghost use mathlib.Core.Path.{_≡_};
 ghost use Prim.Native.Nat.{_+_, _≤_};
 ghost use lib.ListN.{length};
 ghost use Rattle.fields.specs.Limits.{largestFile};
+ghost use Rattle.blocks.specs.Head.{headSize};
 ghost use Rattle.blocks.specs.Block.{standingOf, contentsAt, judgedAt, blockAt, blockIn, blockGiven};
 
 // How many chains may stand within one another.
@@ -51,10 +53,10 @@ fn standing(kind: Kind, remaining: u32, continued: bool) -> u32
         Kind::Unknown => UNKNOWN_TYPE,
         Kind::Header => OUT_OF_ORDER,
         Kind::Continuation(_) => { if remaining == LEVELS { 0 } else { OUT_OF_ORDER } }
-        Kind::Declaration(number) => {
+        Kind::Declaration(block_type) => {
             if continued {
                 OUT_OF_ORDER
-            } else if number != MODIFIER_CHAIN {
+            } else if block_type != MODIFIER_CHAIN {
                 0
             } else if remaining == 0 {
                 BAD_CHAIN
@@ -67,7 +69,7 @@ fn standing(kind: Kind, remaining: u32, continued: bool) -> u32
 
 // The block at `at` with its contents. Its room has been judged.
 fn with_contents(s: &[u8], at: usize, kind: Kind, head: Head, extent: Extent) -> BlockAnswer
-    requires { ⌜ (at + 12 ≤ extent .«data_end») × (extent .«data_end» ≤ length (now s)) ⌝ }
+    requires { ⌜ (at + headSize ≤ extent .«data_end») × (extent .«data_end» ≤ length (now s)) ⌝ }
     ensures { λ r. ⌜ blockGiven r ≡ contentsAt (now (s .entry)) at kind head extent ⌝ }
 {
     let end = extent.data_end;
@@ -79,7 +81,7 @@ fn with_contents(s: &[u8], at: usize, kind: Kind, head: Head, extent: Extent) ->
             contents: Run { at: end, count: 0 },
         });
     }
-    match chain_at(&s[..end], at + 12) {
+    match chain_at(&s[..end], at + HEAD_SIZE) {
         RunAnswer::Refused(e) => BlockAnswer::Refused(in_chain(e)),
         RunAnswer::Found(contents) => BlockAnswer::Found(Block {
             kind,
@@ -92,10 +94,10 @@ fn with_contents(s: &[u8], at: usize, kind: Kind, head: Head, extent: Extent) ->
 
 // The block at `at`, whose leading numbers have been read.
 fn judged(s: &[u8], at: usize, head: Head, remaining: u32, continued: bool) -> BlockAnswer
-    requires { ⌜ (at + 12 ≤ length (now s)) × (length (now s) ≤ largestFile) ⌝ }
+    requires { ⌜ (at + headSize ≤ length (now s)) × (length (now s) ≤ largestFile) ⌝ }
     ensures { λ r. ⌜ blockGiven r ≡ judgedAt (now (s .entry)) at head remaining continued ⌝ }
 {
-    let kind = kind_of(head.number);
+    let kind = kind_of(head.block_type);
     let number = standing(kind, remaining, continued);
     if number != 0 {
         return BlockAnswer::Refused(Refusal { number, place: at });

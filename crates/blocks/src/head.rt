@@ -15,9 +15,12 @@ ghost use Rattle.fields.specs.Judged.{refused};
 ghost use Rattle.blocks.specs.Padding.{checkGiven};
 ghost use Rattle.blocks.specs.Head.{headAt, headGiven, extentOf, roomOf, paddingsOf};
 
+// Bytes of a block's leading numbers.
+pub const HEAD_SIZE: usize = 12;
+
 // A block's leading numbers: its type, data size and meta data size.
 pub struct Head {
-    pub number: u32,
+    pub block_type: u32,
     pub data_size: u32,
     pub meta_size: u32,
 }
@@ -31,7 +34,7 @@ pub enum HeadAnswer {
 pub(crate) fn head_at(s: &[u8], at: usize) -> HeadAnswer
     ensures { λ r. ⌜ headGiven r ≡ headAt (now (s .entry)) at ⌝ }
 {
-    let U32Field::Value(number) = u32_at(s, at) else {
+    let U32Field::Value(block_type) = u32_at(s, at) else {
         return HeadAnswer::Refused(Refusal {
             number: TRUNCATED,
             place: at,
@@ -50,7 +53,7 @@ pub(crate) fn head_at(s: &[u8], at: usize) -> HeadAnswer
         });
     };
     HeadAnswer::Found(Head {
-        number,
+        block_type,
         data_size,
         meta_size,
     })
@@ -69,8 +72,8 @@ pub(crate) fn extent_of(at: usize, head: Head) -> Extent
     requires { ⌜ at ≤ largestFile ⌝ }
     ensures { λ r. ⌜ r ≡ extentOf at head ⌝ }
 {
-    let data_end = at + 12 + head.data_size as usize;
-    let meta_at = at + 12 + aligned(head.data_size as usize);
+    let data_end = at + HEAD_SIZE + head.data_size as usize;
+    let meta_at = at + HEAD_SIZE + aligned(head.data_size as usize);
     let meta_end = meta_at + head.meta_size as usize;
     Extent {
         data_end,
@@ -95,7 +98,7 @@ pub(crate) fn room(len: usize, at: usize, e: Extent) -> Check
     ensures { λ r. ⌜ checkGiven r ≡ roomOf len at e ⌝ }
 {
     if len < e.data_end {
-        return truncated(at + 12);
+        return truncated(at + HEAD_SIZE);
     }
     if len < e.meta_at {
         return truncated(e.data_end);

@@ -163,7 +163,7 @@ fn header_rest(s: &[u8], head: Head, fields: FileHeader) -> FirstBlock
 fn judged_header(s: &[u8], head: Head) -> FirstBlock
     ensures { λ r. ⌜ firstGiven r ≡ judgedOf (now (s .entry)) head ⌝ }
 {
-    if head.number != FILE_HEADER {
+    if head.block_type != FILE_HEADER {
         return FirstBlock::Refused(Refusal {
             number: BAD_HEADER,
             place: 0,

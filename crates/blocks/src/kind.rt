@@ -285,20 +285,20 @@ fn class_of(last: usize) -> u8
 }
 
 // The kind of a block type.
-pub fn kind_of(number: u32) -> Kind
-    ensures { λ r. ⌜ r ≡ kindOf number ⌝ }
+pub fn kind_of(block_type: u32) -> Kind
+    ensures { λ r. ⌜ r ≡ kindOf «block_type» ⌝ }
 {
-    if number == FILE_HEADER {
+    if block_type == FILE_HEADER {
         return Kind::Header;
     }
-    if number < KNOWN_TYPES {
+    if block_type < KNOWN_TYPES {
         return Kind::Unknown;
     }
-    let class = class_of((number - KNOWN_TYPES) as usize);
+    let class = class_of((block_type - KNOWN_TYPES) as usize);
     if class == 1 {
-        Kind::Declaration(number)
+        Kind::Declaration(block_type)
     } else if class == 2 {
-        Kind::Continuation(number)
+        Kind::Continuation(block_type)
     } else {
         Kind::Unknown
     }
@@ -308,7 +308,7 @@ pub(crate) fn is_chain(kind: Kind) -> bool
     ensures { λ r. ⌜ r ≡ isChain kind ⌝ }
 {
     match kind {
-        Kind::Declaration(number) => number == MODIFIER_CHAIN,
+        Kind::Declaration(block_type) => block_type == MODIFIER_CHAIN,
         Kind::Header => false,
         Kind::Continuation(_) => false,
         Kind::Unknown => false,

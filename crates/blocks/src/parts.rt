@@ -1,4 +1,5 @@
 // Parts of a file, for every offset: a block's data, its meta data, a chain's name; the empty part where there is none.
+use crate::head::HEAD_SIZE;
 use crate::head::HeadAnswer;
 use crate::head::extent_of;
 use crate::head::head_at;
@@ -31,7 +32,7 @@ pub fn data_part(file: &[u8], at: usize) -> &[u8]
 {
     match head_in(file, at) {
         HeadAnswer::Refused(_) => &file[..0],
-        HeadAnswer::Found(head) => bytes_at(file, at + 12, head.data_size as usize),
+        HeadAnswer::Found(head) => bytes_at(file, at + HEAD_SIZE, head.data_size as usize),
     }
 }
 
@@ -55,12 +56,12 @@ pub fn chain_name(file: &[u8], at: usize) -> &[u8]
     let HeadAnswer::Found(head) = head_in(file, at) else {
         return &file[..0];
     };
-    if head.number != MODIFIER_CHAIN {
+    if head.block_type != MODIFIER_CHAIN {
         return &file[..0];
     }
     let end = extent_of(at, head).data_end;
     if file.len() < end {
         return &file[..0];
     }
-    name_part(&file[..end], at + 12)
+    name_part(&file[..end], at + HEAD_SIZE)
 }

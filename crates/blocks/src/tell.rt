@@ -16,7 +16,7 @@ pub const ROW_WIDTH: usize = 5;
 // A block's row: its offset, type, data size, meta data size, and its depth from 0.
 pub struct Row {
     pub offset: u32,
-    pub number: u32,
+    pub block_type: u32,
     pub data_size: u32,
     pub meta_size: u32,
     pub depth: u32,
@@ -44,7 +44,7 @@ fn put_row(table: &mut [u32], blocks: usize, row: Row)
 {
     let at = blocks * ROW_WIDTH;
     put(table, at, row.offset);
-    put(table, at + 1, row.number);
+    put(table, at + 1, row.block_type);
     put(table, at + 2, row.data_size);
     put(table, at + 3, row.meta_size);
     put(table, at + 4, row.depth);
@@ -58,7 +58,7 @@ fn put_line(text: &mut [u8], at: usize, row: Row) -> usize
 {
     let mut end = at + put_word(text, at, b"block\t");
     end = end + put_decimal(text, end, row.offset as u64, b'\t');
-    end = end + put_hex(text, end, row.number, b'\t');
+    end = end + put_hex(text, end, row.block_type, b'\t');
     end = end + put_decimal(text, end, row.data_size as u64, b'\t');
     end = end + put_decimal(text, end, row.meta_size as u64, b'\t');
     end = end + put_decimal(text, end, row.depth as u64, b'\n');

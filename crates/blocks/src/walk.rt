@@ -37,7 +37,7 @@ pub(crate) fn row_of(at: usize, head: Head, remaining: u32) -> Row
 {
     Row {
         offset: at as u32,
-        number: head.number,
+        block_type: head.block_type,
         data_size: head.data_size,
         meta_size: head.meta_size,
         depth: LEVELS - remaining,

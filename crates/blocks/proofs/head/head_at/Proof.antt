@@ -9,8 +9,8 @@ use Rattle.blocks.proofs.head.head_at.Tie as tie
 u32-at-requires : tie.Need-u32-at-requires
 u32-at-requires c κs = search needs
 
-enum-known-number : tie.Need-enum-known-number
-enum-known-number c = search needs
+enum-known-block-type : tie.Need-enum-known-block-type
+enum-known-block-type c = search needs
 
 enum-told : tie.Need-enum-told
 enum-told c = search needs
@@ -20,7 +20,7 @@ unfolding headAt
 returns c = simp (u32-missing _ _ _ (c .before .before .u32-at .ensures) (c .enum-told .given .1))
 
 add-u32-at : tie.Need-add-u32-at
-add-u32-at c = omega (arith, field-within 4 _ _ _ (u32-value _ _ _ _ (c .before .before .before .u32-at .ensures) (c .before .number .given .1)))
+add-u32-at c = omega (arith, field-within 4 _ _ _ (u32-value _ _ _ _ (c .before .before .before .u32-at .ensures) (c .before .block-type .given .1)))
 
 u32-at-requires-2 : tie.Need-u32-at-requires-2
 u32-at-requires-2 c κs = search needs
@@ -32,11 +32,11 @@ enum-told-2 : tie.Need-enum-told-2
 enum-told-2 c = search needs
 
 add-t10 : tie.Need-add-t10
-add-t10 c = omega (arith, field-within 4 _ _ _ (u32-value _ _ _ _ (c .before .before .before .before .before .before .u32-at .ensures) (c .before .before .before .before .number .given .1)))
+add-t10 c = omega (arith, field-within 4 _ _ _ (u32-value _ _ _ _ (c .before .before .before .before .before .before .u32-at .ensures) (c .before .before .before .before .block-type .given .1)))
 
 returns-2 : tie.Need-returns-2
 unfolding headAt
-returns-2 c = simp (u32-value _ _ _ _ (c .before .before .before .before .before .before .u32-at .ensures) (c .before .before .before .before .number .given .1), u32-missing _ _ _ (c .before .before .u32-at2 .ensures) (c .enum-told2 .given .1))
+returns-2 c = simp (u32-value _ _ _ _ (c .before .before .before .before .before .before .u32-at .ensures) (c .before .before .before .before .block-type .given .1), u32-missing _ _ _ (c .before .before .u32-at2 .ensures) (c .enum-told2 .given .1))
 
 add-u32-at-2 : tie.Need-add-u32-at-2
 add-u32-at-2 c = omega (arith, field-within 4 _ _ _ (u32-value _ _ _ _ (c .before .before .before .u32-at2 .ensures) (c .before .data-size .given .1)))
@@ -55,18 +55,18 @@ add-t13 c = omega (arith, field-within 4 _ _ _ (u32-value _ _ _ _ (c .before .be
 
 returns-3 : tie.Need-returns-3
 unfolding headAt
-returns-3 c = simp (u32-value _ _ _ _ (c .before .before .before .before .before .before .before .before .before .before .u32-at .ensures) (c .before .before .before .before .before .before .before .before .number .given .1), u32-value _ _ _ _ (c .before .before .before .before .before .before .u32-at2 .ensures) (c .before .before .before .before .data-size .given .1), u32-missing _ _ _ (c .before .before .u32-at3 .ensures) (c .enum-told3 .given .1))
+returns-3 c = simp (u32-value _ _ _ _ (c .before .before .before .before .before .before .before .before .before .before .u32-at .ensures) (c .before .before .before .before .before .before .before .before .block-type .given .1), u32-value _ _ _ _ (c .before .before .before .before .before .before .u32-at2 .ensures) (c .before .before .before .before .data-size .given .1), u32-missing _ _ _ (c .before .before .u32-at3 .ensures) (c .enum-told3 .given .1))
 
 returns-4 : tie.Need-returns-4
 unfolding headAt
-returns-4 c = simp (u32-value _ _ _ _ (c .before .before .before .before .before .before .before .before .before .before .before .u32-at .ensures) (c .before .before .before .before .before .before .before .before .before .number .given .1), u32-value _ _ _ _ (c .before .before .before .before .before .before .before .u32-at2 .ensures) (c .before .before .before .before .before .data-size .given .1), u32-value _ _ _ _ (c .before .before .before .u32-at3 .ensures) (c .before .meta-size .given .1))
+returns-4 c = simp (u32-value _ _ _ _ (c .before .before .before .before .before .before .before .before .before .before .before .u32-at .ensures) (c .before .before .before .before .before .before .before .before .before .block-type .given .1), u32-value _ _ _ _ (c .before .before .before .before .before .before .before .u32-at2 .ensures) (c .before .before .before .before .before .data-size .given .1), u32-value _ _ _ _ (c .before .before .before .u32-at3 .ensures) (c .before .meta-size .given .1))
 
 pub head-at-spec : {M : Type 1} → statement M
 head-at-spec =
     tie.close
     (tie.spec
     u32-at-requires
-    enum-known-number
+    enum-known-block-type
     enum-told
     returns
     add-u32-at

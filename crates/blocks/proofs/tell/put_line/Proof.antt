@@ -30,7 +30,7 @@ put-hex-requires : tie.Need-put-hex-requires
 put-hex-requires c κs = search needs
 
 add-end-3 : tie.Need-add-end-3
-add-end-3 c = omega (arith, c .before .before .before .before .before .before .before .before .before .before .before .put-word .ensures .0, c .before .before .before .before .before .before .put-decimal .ensures .0, c .before .before .put-hex .ensures .0, decimal-length (c .before .before .before .before .before .before .before .before .before .before .before .before .before .before .before .args .row .offset) 9, hex-length (c .before .before .before .before .before .before .before .before .before .before .before .before .before .before .before .args .row .number) 9)
+add-end-3 c = omega (arith, c .before .before .before .before .before .before .before .before .before .before .before .put-word .ensures .0, c .before .before .before .before .before .before .put-decimal .ensures .0, c .before .before .put-hex .ensures .0, decimal-length (c .before .before .before .before .before .before .before .before .before .before .before .before .before .before .before .args .row .offset) 9, hex-length (c .before .before .before .before .before .before .before .before .before .before .before .before .before .before .before .args .row .«block_type») 9)
 
 cast-put-decimal-2 : tie.Need-cast-put-decimal-2
 cast-put-decimal-2 c = search needs
@@ -39,7 +39,7 @@ put-decimal-requires-2 : tie.Need-put-decimal-requires-2
 put-decimal-requires-2 c κs = search needs
 
 add-end-4 : tie.Need-add-end-4
-add-end-4 c = omega (arith, c .before .before .before .before .before .before .before .before .before .before .before .before .before .before .before .before .put-word .ensures .0, c .before .before .before .before .before .before .before .before .before .before .before .put-decimal .ensures .0, c .before .before .before .before .before .before .before .put-hex .ensures .0, c .before .before .put-decimal2 .ensures .0, decimal-length (c .before .before .before .before .before .before .before .before .before .before .before .before .before .before .before .before .before .before .before .before .args .row .offset) 9, hex-length (c .before .before .before .before .before .before .before .before .before .before .before .before .before .before .before .before .before .before .before .before .args .row .number) 9, decimal-length (c .before .before .before .before .before .before .before .before .before .before .before .before .before .before .before .before .before .before .before .before .args .row .«data_size») 9)
+add-end-4 c = omega (arith, c .before .before .before .before .before .before .before .before .before .before .before .before .before .before .before .before .put-word .ensures .0, c .before .before .before .before .before .before .before .before .before .before .before .put-decimal .ensures .0, c .before .before .before .before .before .before .before .put-hex .ensures .0, c .before .before .put-decimal2 .ensures .0, decimal-length (c .before .before .before .before .before .before .before .before .before .before .before .before .before .before .before .before .before .before .before .before .args .row .offset) 9, hex-length (c .before .before .before .before .before .before .before .before .before .before .before .before .before .before .before .before .before .before .before .before .args .row .«block_type») 9, decimal-length (c .before .before .before .before .before .before .before .before .before .before .before .before .before .before .before .before .before .before .before .before .args .row .«data_size») 9)
 
 cast-put-decimal-3 : tie.Need-cast-put-decimal-3
 cast-put-decimal-3 c = search needs
@@ -48,7 +48,7 @@ put-decimal-requires-3 : tie.Need-put-decimal-requires-3
 put-decimal-requires-3 c κs = search needs
 
 add-end-5 : tie.Need-add-end-5
-add-end-5 c = omega (arith, c .before .before .before .before .before .before .before .before .before .before .before .before .before .before .before .before .before .before .before .before .before .put-word .ensures .0, c .before .before .before .before .before .before .before .before .before .before .before .before .before .before .before .before .put-decimal .ensures .0, c .before .before .before .before .before .before .before .before .before .before .before .before .put-hex .ensures .0, c .before .before .before .before .before .before .before .put-decimal2 .ensures .0, c .before .before .put-decimal3 .ensures .0, decimal-length (c .before .before .before .before .before .before .before .before .before .before .before .before .before .before .before .before .before .before .before .before .before .before .before .before .before .args .row .offset) 9, hex-length (c .before .before .before .before .before .before .before .before .before .before .before .before .before .before .before .before .before .before .before .before .before .before .before .before .before .args .row .number) 9, decimal-length (c .before .before .before .before .before .before .before .before .before .before .before .before .before .before .before .before .before .before .before .before .before .before .before .before .before .args .row .«data_size») 9, decimal-length (c .before .before .before .before .before .before .before .before .before .before .before .before .before .before .before .before .before .before .before .before .before .before .before .before .before .args .row .«meta_size») 9)
+add-end-5 c = omega (arith, c .before .before .before .before .before .before .before .before .before .before .before .before .before .before .before .before .before .before .before .before .before .put-word .ensures .0, c .before .before .before .before .before .before .before .before .before .before .before .before .before .before .before .before .put-decimal .ensures .0, c .before .before .before .before .before .before .before .before .before .before .before .before .put-hex .ensures .0, c .before .before .before .before .before .before .before .put-decimal2 .ensures .0, c .before .before .put-decimal3 .ensures .0, decimal-length (c .before .before .before .before .before .before .before .before .before .before .before .before .before .before .before .before .before .before .before .before .before .before .before .before .before .args .row .offset) 9, hex-length (c .before .before .before .before .before .before .before .before .before .before .before .before .before .before .before .before .before .before .before .before .before .before .before .before .before .args .row .«block_type») 9, decimal-length (c .before .before .before .before .before .before .before .before .before .before .before .before .before .before .before .before .before .before .before .before .before .before .before .before .before .args .row .«data_size») 9, decimal-length (c .before .before .before .before .before .before .before .before .before .before .before .before .before .before .before .before .before .before .before .before .before .before .before .before .before .args .row .«meta_size») 9)
 
 cast-put-decimal-4 : tie.Need-cast-put-decimal-4
 cast-put-decimal-4 c = search needs
@@ -57,7 +57,7 @@ put-decimal-requires-4 : tie.Need-put-decimal-requires-4
 put-decimal-requires-4 c κs = search needs
 
 add-end-6 : tie.Need-add-end-6
-add-end-6 c = omega (arith, c .before .before .before .before .before .before .before .before .before .before .before .before .before .before .before .before .before .before .before .before .before .before .before .before .before .before .before .before .before .before .pre, c .before .before .before .before .before .before .before .before .before .before .before .before .before .before .before .before .before .before .before .before .before .before .before .before .before .before .put-word .ensures .0, c .before .before .before .before .before .before .before .before .before .before .before .before .before .before .before .before .before .before .before .before .before .put-decimal .ensures .0, c .before .before .before .before .before .before .before .before .before .before .before .before .before .before .before .before .before .put-hex .ensures .0, c .before .before .before .before .before .before .before .before .before .before .before .before .put-decimal2 .ensures .0, c .before .before .before .before .before .before .before .put-decimal3 .ensures .0, c .before .before .put-decimal4 .ensures .0, decimal-length (c .before .before .before .before .before .before .before .before .before .before .before .before .before .before .before .before .before .before .before .before .before .before .before .before .before .before .before .before .before .before .args .row .offset) 9, hex-length (c .before .before .before .before .before .before .before .before .before .before .before .before .before .before .before .before .before .before .before .before .before .before .before .before .before .before .before .before .before .before .args .row .number) 9, decimal-length (c .before .before .before .before .before .before .before .before .before .before .before .before .before .before .before .before .before .before .before .before .before .before .before .before .before .before .before .before .before .before .args .row .«data_size») 9, decimal-length (c .before .before .before .before .before .before .before .before .before .before .before .before .before .before .before .before .before .before .before .before .before .before .before .before .before .before .before .before .before .before .args .row .«meta_size») 9, decimal-length (c .before .before .before .before .before .before .before .before .before .before .before .before .before .before .before .before .before .before .before .before .before .before .before .before .before .before .before .before .before .before .args .row .depth) 10)
+add-end-6 c = omega (arith, c .before .before .before .before .before .before .before .before .before .before .before .before .before .before .before .before .before .before .before .before .before .before .before .before .before .before .before .before .before .before .pre, c .before .before .before .before .before .before .before .before .before .before .before .before .before .before .before .before .before .before .before .before .before .before .before .before .before .before .put-word .ensures .0, c .before .before .before .before .before .before .before .before .before .before .before .before .before .before .before .before .before .before .before .before .before .put-decimal .ensures .0, c .before .before .before .before .before .before .before .before .before .before .before .before .before .before .before .before .before .put-hex .ensures .0, c .before .before .before .before .before .before .before .before .before .before .before .before .put-decimal2 .ensures .0, c .before .before .before .before .before .before .before .put-decimal3 .ensures .0, c .before .before .put-decimal4 .ensures .0, decimal-length (c .before .before .before .before .before .before .before .before .before .before .before .before .before .before .before .before .before .before .before .before .before .before .before .before .before .before .before .before .before .before .args .row .offset) 9, hex-length (c .before .before .before .before .before .before .before .before .before .before .before .before .before .before .before .before .before .before .before .before .before .before .before .before .before .before .before .before .before .before .args .row .«block_type») 9, decimal-length (c .before .before .before .before .before .before .before .before .before .before .before .before .before .before .before .before .before .before .before .before .before .before .before .before .before .before .before .before .before .before .args .row .«data_size») 9, decimal-length (c .before .before .before .before .before .before .before .before .before .before .before .before .before .before .before .before .before .before .before .before .before .before .before .before .before .before .before .before .before .before .args .row .«meta_size») 9, decimal-length (c .before .before .before .before .before .before .before .before .before .before .before .before .before .before .before .before .before .before .before .before .before .before .before .before .before .before .before .before .before .before .args .row .depth) 10)
 
 sub-result : tie.Need-sub-result
 sub-result c = search needs
