@@ -53,7 +53,7 @@ returns-4 c = simp (u16-value _ _ _ _ (c .before .before .before .before .before
 
 returns-5 : tie.Need-returns-5
 unfolding versionOf
-returns-5 c = simp (u16-value _ _ _ _ (c .before .before .before .before .before .before .before .before .before .before .before .before .before .u16-at .ensures) (c .before .before .before .before .before .before .before .before .before .before .before .major .given .1), eq-eqb _ _ (c .before .before .before .before .before .before .before .before .before .if1 .left), u16-value _ _ _ _ (c .before .before .before .before .before .before .before .before .u16-at2 .ensures) (c .before .before .before .before .before .before .minor .given .1), u32-value _ _ _ _ (c .before .before .before .before .u32-at .ensures) (c .before .before .profile .given .1)) (rw (one-of (c .before .before .profile .given .0 .0) _ _ (c .match4 .keys1)))
+returns-5 c = simp (u16-value _ _ _ _ (c .before .before .before .before .before .before .before .before .before .before .before .before .before .u16-at .ensures) (c .before .before .before .before .before .before .before .before .before .before .before .major .given .1), eq-eqb _ _ (c .before .before .before .before .before .before .before .before .before .if1 .left), u16-value _ _ _ _ (c .before .before .before .before .before .before .before .before .u16-at2 .ensures) (c .before .before .before .before .before .before .minor .given .1), u32-value _ _ _ _ (c .before .before .before .before .u32-at .ensures) (c .before .before .profile .given .1)) (rw (one-of (c .before .before .profile .given .0 .0) 0 (2 ∷ 8 ∷ 10 ∷ []) (c .match4 .keys1)))
 
 returns-6 : tie.Need-returns-6
 unfolding versionOf
