@@ -14,12 +14,23 @@ ghost use lib.Seq.{sets};
 ghost use Rattle.fields.specs.Numbers.{noRoom};
 ghost use Rattle.fields.specs.Judged.{done, refused};
 ghost use Rattle.blocks.specs.File.{fileLines, linesGiven, linesOf};
-ghost use Rattle.listing.specs.Listing.{endLine, fileWithin, listingWith, listingOf, written, textAfter, listingGiven};
+ghost use Rattle.listing.specs.Listing.{firstLine, endLine, fileWithin, listingWith, listingOf, written, textAfter, listingGiven};
 
 // The answer: the text was written, in so many bytes.
 pub enum Listing {
     Written { bytes: usize },
     Refused(Refusal),
+}
+
+// Bytes of the first line.
+const FIRST_SIZE: usize = 9;
+
+// Stores the first line at the start of `text` as far as there is room, and answers its length.
+fn put_first(text: &mut [u8]) -> usize
+    ensures { λ r. ⌜ r ≡ length firstLine ⌝ }
+    ensures { λ r. ⌜ now (text .exit) ≡ sets (now (text .entry)) 0 firstLine ⌝ }
+{
+    put_word(text, 0, b"blocks\t1\n")
 }
 
 // Stores the end line at the start of `text` as far as there is room, and answers its length.
@@ -68,11 +79,11 @@ fn put_refused(text: &mut [u8], e: Refusal) -> Listing
     ensures { λ r. ⌜ now (text .exit) ≡ textAfter (listingWith (refused (e .number) (e .place)) []) (now (text .entry)) ⌝ }
 {
     let number = e.number;
-    let size = 9 + end_size(number, 0);
+    let size = FIRST_SIZE + end_size(number, 0);
     if text.len() < size {
         return no_room();
     }
-    let from = put_word(text, 0, b"blocks\t1\n");
+    let from = put_first(text);
     put_end(&mut text[from..], number, 0);
     Listing::Written { bytes: size }
 }
@@ -83,14 +94,14 @@ fn put_done(file: &[u8], text: &mut [u8], blocks: usize, bytes: usize) -> Listin
     ensures { λ r. ⌜ listingGiven r ≡ written (listingWith (linesOf (now (file .entry))) (fileLines (now (file .entry)))) (now (text .entry)) ⌝ }
     ensures { λ r. ⌜ now (text .exit) ≡ textAfter (listingWith (linesOf (now (file .entry))) (fileLines (now (file .entry)))) (now (text .entry)) ⌝ }
 {
-    let lines = 9 + end_size(0, blocks);
+    let lines = FIRST_SIZE + end_size(0, blocks);
     if text.len() < lines {
         return no_room();
     }
     if text.len() - lines < bytes {
         return no_room();
     }
-    let from = put_word(text, 0, b"blocks\t1\n");
+    let from = put_first(text);
     let end = from + bytes;
     put_lines(file, &mut text[from..]);
     put_end(&mut text[end..], 0, blocks);

@@ -31,11 +31,8 @@ returns-2 c =
     let q = done-short (c .before .before .before .before .before .before .args .file .now) (record { blocks = c .before .before .before .before .before .before .args .blocks; bytes = c .before .before .before .before .before .before .args .bytes }) (c .before .before .before .before .before .before .args .text .now) (c .before .before .before .before .before .before .pre) (omega (arith, c .before .before .before .end-size .ensures, c .before .before .if1 .left, c .before .if2 .taken)) in
     (c .no-room2 .ensures ∙ q .0, q .1)
 
-slice-aggregate-put-word : tie.Need-slice-aggregate-put-word
-slice-aggregate-put-word c = search needs
-
-put-word-requires : tie.Need-put-word-requires
-put-word-requires c κs = search needs
+put-first-requires : tie.Need-put-first-requires
+put-first-requires c κs = search needs
 
 add-end : tie.Need-add-end
 add-end c = search needs
@@ -64,16 +61,16 @@ part-put-end-end c = search needs
 put-end-requires : tie.Need-put-end-requires
 put-end-requires c κs = search needs
 
-add-t11 : tie.Need-add-t11
-add-t11 c = search needs
+add-t10 : tie.Need-add-t10
+add-t10 c = search needs
 
 same-length : tie.Need-same-length
 same-length c = search needs
 
 returns-3 : tie.Need-returns-3
 returns-3 c =
-    done-stored (c .before .before .before .before .before .before .before .before .before .before .before .before .before .before .before .before .before .before .args .file .now) (record { blocks = c .before .before .before .before .before .before .before .before .before .before .before .before .before .before .before .before .before .before .args .blocks; bytes = c .before .before .before .before .before .before .before .before .before .before .before .before .before .before .before .before .before .before .args .bytes }) (c .before .before .before .before .before .before .before .before .before .before .before .before .before .before .before .before .before .before .args .text .now) (c .before .before .before .before .before .before .before .before .before .before .put-word .last .0) _ (c .before .before .before .before .before .before .put-lines .last .1 .0) (c .before .before .put-end .last .0) (c .before .before .before .before .before .before .before .before .before .before .put-word .result) _ (c .before .before .before .before .before .before .before .before .before .before .before .before .before .before .before .before .before .before .pre)
-    (c .before .before .before .before .before .before .before .before .before .before .put-word .ensures .1) (c .before .before .before .before .before .before .before .before .before .before .put-word .ensures .0) (c .before .before .before .before .before .before .put-lines .ensures .1) refl (c .before .before .put-end .ensures .1) (omega (arith, c .before .before .before .before .before .before .before .before .before .before .before .before .before .before .before .end-size .ensures)) (omega (arith, c .before .before .before .before .before .before .before .before .before .before .before .before .before .before .if1 .left, c .before .before .before .before .before .before .before .before .before .before .before .before .before .if2 .left))
+    done-stored (c .before .before .before .before .before .before .before .before .before .before .before .before .before .before .before .before .before .args .file .now) (record { blocks = c .before .before .before .before .before .before .before .before .before .before .before .before .before .before .before .before .before .args .blocks; bytes = c .before .before .before .before .before .before .before .before .before .before .before .before .before .before .before .before .before .args .bytes }) (c .before .before .before .before .before .before .before .before .before .before .before .before .before .before .before .before .before .args .text .now) (c .before .before .before .before .before .before .before .before .before .before .put-first .last .0) _ (c .before .before .before .before .before .before .put-lines .last .1 .0) (c .before .before .put-end .last .0) (c .before .before .before .before .before .before .before .before .before .before .put-first .result) _ (c .before .before .before .before .before .before .before .before .before .before .before .before .before .before .before .before .before .pre)
+    (c .before .before .before .before .before .before .before .before .before .before .put-first .ensures .1) (c .before .before .before .before .before .before .before .before .before .before .put-first .ensures .0) (c .before .before .before .before .before .before .put-lines .ensures .1) refl (c .before .before .put-end .ensures .1) (omega (arith, c .before .before .before .before .before .before .before .before .before .before .before .before .before .before .end-size .ensures)) (omega (arith, c .before .before .before .before .before .before .before .before .before .before .before .before .before .if1 .left, c .before .before .before .before .before .before .before .before .before .before .before .before .if2 .left))
 
 pub put-done-spec : {M : Type 1} → statement M
 put-done-spec =
@@ -86,8 +83,7 @@ put-done-spec =
     sub-if2
     no-room-requires-2
     returns-2
-    slice-aggregate-put-word
-    put-word-requires
+    put-first-requires
     add-end
     sub-put-lines
     part-put-lines-start
@@ -97,6 +93,6 @@ put-done-spec =
     part-put-end-start
     part-put-end-end
     put-end-requires
-    add-t11
+    add-t10
     same-length
     returns-3)

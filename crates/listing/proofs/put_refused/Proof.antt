@@ -20,11 +20,8 @@ returns c =
     let q = refused-short (c .before .before .before .before .args .e) (c .before .before .before .before .args .text .now) (omega (arith, c .before .before .end-size .ensures, c .before .if1 .taken)) in
     (c .no-room .ensures ∙ q .0, q .1)
 
-slice-aggregate-put-word : tie.Need-slice-aggregate-put-word
-slice-aggregate-put-word c = search needs
-
-put-word-requires : tie.Need-put-word-requires
-put-word-requires c κs = search needs
+put-first-requires : tie.Need-put-first-requires
+put-first-requires c κs = search needs
 
 sub-put-end : tie.Need-sub-put-end
 sub-put-end c = search needs
@@ -43,8 +40,8 @@ same-length c = search needs
 
 returns-2 : tie.Need-returns-2
 returns-2 c =
-    refused-stored (c .before .before .before .before .before .before .before .before .before .before .before .before .args .e) (c .before .before .before .before .before .before .before .before .before .before .before .before .args .text .now) (c .before .before .before .before .before .before .put-word .last .0) (c .before .before .put-end .last .0) (c .before .before .before .before .before .before .put-word .result) _ (c .before .before .before .before .before .before .put-word .ensures .1) (c .before .before .before .before .before .before .put-word .ensures .0) (c .before .before .put-end .ensures .1)
-    (omega (arith, c .before .before .before .before .before .before .before .before .before .before .end-size .ensures)) (c .before .before .before .before .before .before .before .before .before .if1 .left)
+    refused-stored (c .before .before .before .before .before .before .before .before .before .before .before .args .e) (c .before .before .before .before .before .before .before .before .before .before .before .args .text .now) (c .before .before .before .before .before .before .put-first .last .0) (c .before .before .put-end .last .0) (c .before .before .before .before .before .before .put-first .result) _ (c .before .before .before .before .before .before .put-first .ensures .1) (c .before .before .before .before .before .before .put-first .ensures .0) (c .before .before .put-end .ensures .1)
+    (omega (arith, c .before .before .before .before .before .before .before .before .before .end-size .ensures)) (c .before .before .before .before .before .before .before .before .if1 .left)
 
 pub put-refused-spec : {M : Type 1} → statement M
 put-refused-spec =
@@ -54,8 +51,7 @@ put-refused-spec =
     add-size
     no-room-requires
     returns
-    slice-aggregate-put-word
-    put-word-requires
+    put-first-requires
     sub-put-end
     part-put-end-start
     part-put-end-end
