@@ -10,13 +10,8 @@ use lib.ListN.{length}
 use Rattle.fields.specs.Numbers.{truncated, badName}
 use Rattle.fields.specs.Limits.{longestName}
 use Rattle.fields.specs.Judged.{Judged, done, refused, onDone, refusedIf}
-use Rattle.fields.specs.Field.{fieldAt, u16Given, u32Given, u64Given}
-use Rattle.fields.specs.Name.{stringAt, nameAt, stringGiven, nameGiven}
-use Rattle.fields.specs.declared.field.U16Field as half
-use Rattle.fields.specs.declared.field.U32Field as word
-use Rattle.fields.specs.declared.field.U64Field as long
-use Rattle.fields.specs.declared.name.StringField as string
-use Rattle.fields.specs.declared.name.NameField as name
+use Rattle.fields.specs.Field.{fieldAt}
+use Rattle.fields.specs.Name.{stringAt, nameAt}
 
 -- a refusal is no value
 pub not-done : {A C : Type 0} {n p : ℕ} {a : A} → refused n p ≡ done a → C
@@ -43,50 +38,9 @@ pub field-within : (width : ℕ) (s : List ℕ) (at v : ℕ) → fieldAt width s
 unfolding fieldAt
 field-within width s at v e = ltb-false (length s) (at + width) (passed (ltb (length s) (at + width)) truncated at _ v e .0)
 
--- the answers of the field readers, turned into what was judged
-pub u16-value : (at : ℕ) (r : half.U16Field) (v : ℕ) (j : Judged ℕ) → u16Given at r ≡ j → r ≡ half.the-variants.Value v → j ≡ done v
-unfolding u16Given
-u16-value at r v j e f = sym e ∙ ap (u16Given at) f
-
-pub u16-missing : (at : ℕ) (r : half.U16Field) (j : Judged ℕ) → u16Given at r ≡ j → r ≡ half.the-variants.Missing → j ≡ refused truncated at
-unfolding u16Given
-u16-missing at r j e f = sym e ∙ ap (u16Given at) f
-
-pub u32-value : (at : ℕ) (r : word.U32Field) (v : ℕ) (j : Judged ℕ) → u32Given at r ≡ j → r ≡ word.the-variants.Value v → j ≡ done v
-unfolding u32Given
-u32-value at r v j e f = sym e ∙ ap (u32Given at) f
-
-pub u32-missing : (at : ℕ) (r : word.U32Field) (j : Judged ℕ) → u32Given at r ≡ j → r ≡ word.the-variants.Missing → j ≡ refused truncated at
-unfolding u32Given
-u32-missing at r j e f = sym e ∙ ap (u32Given at) f
-
-pub u64-value : (at : ℕ) (r : long.U64Field) (v : ℕ) (j : Judged ℕ) → u64Given at r ≡ j → r ≡ long.the-variants.Value v → j ≡ done v
-unfolding u64Given
-u64-value at r v j e f = sym e ∙ ap (u64Given at) f
-
-pub u64-missing : (at : ℕ) (r : long.U64Field) (j : Judged ℕ) → u64Given at r ≡ j → r ≡ long.the-variants.Missing → j ≡ refused truncated at
-unfolding u64Given
-u64-missing at r j e f = sym e ∙ ap (u64Given at) f
-
-pub string-size : (at : ℕ) (r : string.StringField) (size : ℕ) (j : Judged ℕ) → stringGiven at r ≡ j → r ≡ string.the-variants.Size size → j ≡ done size
-unfolding stringGiven
-string-size at r size j e f = sym e ∙ ap (stringGiven at) f
-
-pub string-missing : (at : ℕ) (r : string.StringField) (j : Judged ℕ) → stringGiven at r ≡ j → r ≡ string.the-variants.Missing → j ≡ refused truncated at
-unfolding stringGiven
-string-missing at r j e f = sym e ∙ ap (stringGiven at) f
-
-pub name-size : (at : ℕ) (r : name.NameField) (size : ℕ) (j : Judged ℕ) → nameGiven at r ≡ j → r ≡ name.the-variants.Size size → j ≡ done size
-unfolding nameGiven
-name-size at r size j e f = sym e ∙ ap (nameGiven at) f
-
-pub name-missing : (at : ℕ) (r : name.NameField) (j : Judged ℕ) → nameGiven at r ≡ j → r ≡ name.the-variants.Missing → j ≡ refused truncated at
-unfolding nameGiven
-name-missing at r j e f = sym e ∙ ap (nameGiven at) f
-
-pub name-long : (at : ℕ) (r : name.NameField) (j : Judged ℕ) → nameGiven at r ≡ j → r ≡ name.the-variants.Long → j ≡ refused badName at
-unfolding nameGiven
-name-long at r j e f = sym e ∙ ap (nameGiven at) f
+-- an answer whose case is known, turned into what was judged: one law for every answer and its `..Given` definition
+pub told : {R A : Type 0} (given : R → Judged A) {r r′ : R} {j : Judged A} → given r ≡ j → r ≡ r′ → j ≡ given r′
+told given e f = sym e ∙ ap given f
 
 -- a name that was read lies within the bytes, and is short enough
 pub name-within : (s : List ℕ) (at size : ℕ) → nameAt s at ≡ done size → (at + (size + 2) ≤ length s) × (size ≤ longestName)

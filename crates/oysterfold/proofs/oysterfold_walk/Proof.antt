@@ -1,5 +1,5 @@
 -- The result's length, and then the walk, decide.
-use mathlib.Core.Path.{sym, _∙_, ap}
+use Rattle.fields.proofs.Judging.{told}
 use borrow.Author.Tests.{lt-ltb, le-ltb}
 use Rattle.blocks.specs.File.{walkGiven}
 use Rattle.oysterfold.specs.Results.{walkInto, resultOf}
@@ -35,7 +35,7 @@ same-length-2 c = search needs
 returns-2 : tie.Need-returns-2
 unfolding walkInto resultOf
 returns-2 c =
-    let w = sym (c .before .before .before .before .before .before .before .before .before .walk-blocks .ensures .0) ∙ ap walkGiven (c .before .before .before .before .before .blocks2 .given .1) in
+    let w = told walkGiven (c .before .before .before .before .before .before .before .before .before .walk-blocks .ensures .0) (c .before .before .before .before .before .blocks2 .given .1) in
     let t = le-ltb _ _ (c .before .before .before .before .before .before .before .before .before .before .before .if1 .left) in
     (rw (t, w), (rw (t, w) (rw w at (c .before .before .before .before .before .before .before .before .before .walk-blocks .ensures .1)), rw (t, w) (c .before .before .put-result .ensures)))
 
@@ -48,7 +48,7 @@ same-length-4 c = search needs
 returns-3 : tie.Need-returns-3
 unfolding walkInto resultOf
 returns-3 c =
-    let w = sym (c .before .before .before .before .before .before .before .before .before .walk-blocks .ensures .0) ∙ ap walkGiven (c .before .before .before .before .before .e .given .1) in
+    let w = told walkGiven (c .before .before .before .before .before .before .before .before .before .walk-blocks .ensures .0) (c .before .before .before .before .before .e .given .1) in
     let t = le-ltb _ _ (c .before .before .before .before .before .before .before .before .before .before .before .if1 .left) in
     (rw (t, w), (rw (t, w) (rw w at (c .before .before .before .before .before .before .before .before .before .walk-blocks .ensures .1)), rw (t, w) (c .before .before .put-result2 .ensures)))
 

@@ -1,5 +1,5 @@
 -- The leading numbers, and then the rest.
-use mathlib.Core.Path.{sym, _∙_, ap}
+use Rattle.fields.proofs.Judging.{told}
 use Rattle.blocks.specs.Block.{blockAt}
 use Rattle.blocks.specs.Head.{headGiven}
 use Rattle.blocks.proofs.Fits.{head-within}
@@ -17,15 +17,15 @@ enum-known-head : tie.Need-enum-known-head
 enum-known-head c = search needs
 
 judged-requires : tie.Need-judged-requires
-judged-requires c κs = (head-within _ _ _ (sym (c .before .before .before .head-at .ensures) ∙ ap headGiven (c .before .head .given .1)), c .before .before .before .before .before .pre)
+judged-requires c κs = (head-within _ _ _ (told headGiven (c .before .before .before .head-at .ensures) (c .before .head .given .1)), c .before .before .before .before .before .pre)
 
 returns : tie.Need-returns
 unfolding blockAt
-returns c = simp (sym (c .before .before .before .head-at .ensures) ∙ ap headGiven (c .before .e .given .1))
+returns c = simp (told headGiven (c .before .before .before .head-at .ensures) (c .before .e .given .1))
 
 returns-2 : tie.Need-returns-2
 unfolding blockAt
-returns-2 c = simp (sym (c .before .before .before .before .head-at .ensures) ∙ ap headGiven (c .before .before .head .given .1)) (c .judged .ensures)
+returns-2 c = simp (told headGiven (c .before .before .before .before .head-at .ensures) (c .before .before .head .given .1)) (c .judged .ensures)
 
 pub block-at-spec : {M : Type 1} → statement M
 block-at-spec =

@@ -1,5 +1,6 @@
 -- The place is judged, then the room, then the contents.
-use mathlib.Core.Path.{sym, _∙_, ap}
+use Rattle.fields.proofs.Judging.{told}
+use mathlib.Core.Path.{sym}
 use borrow.Author.Tests.{eq-eqb, ne-eqb}
 use Rattle.blocks.specs.Block.{judgedAt}
 use Rattle.blocks.specs.Padding.{checkGiven}
@@ -31,15 +32,15 @@ enum-told : tie.Need-enum-told
 enum-told c = search needs
 
 with-contents-requires : tie.Need-with-contents-requires
-with-contents-requires c κs = (extent-fits _ _ _ (c .before .before .before .extent-of .ensures) .starts, room-within _ _ _ _ (sym (c .before .before .room .ensures) ∙ ap checkGiven (c .enum-told .given .1)) .0)
+with-contents-requires c κs = (extent-fits _ _ _ (c .before .before .before .extent-of .ensures) .starts, room-within _ _ _ _ (told checkGiven (c .before .before .room .ensures) (c .enum-told .given .1)) .0)
 
 returns-2 : tie.Need-returns-2
 unfolding judgedAt
-returns-2 c = simp (sym (c .before .before .before .before .before .before .before .kind-of .ensures), sym (c .before .before .before .before .before .before .standing .ensures), eq-eqb _ _ (c .before .before .before .before .before .if1 .left), sym (c .before .before .before .before .extent-of .ensures), sym (c .before .before .before .room .ensures) ∙ ap checkGiven (c .before .e .given .1))
+returns-2 c = simp (sym (c .before .before .before .before .before .before .before .kind-of .ensures), sym (c .before .before .before .before .before .before .standing .ensures), eq-eqb _ _ (c .before .before .before .before .before .if1 .left), sym (c .before .before .before .before .extent-of .ensures), told checkGiven (c .before .before .before .room .ensures) (c .before .e .given .1))
 
 returns-3 : tie.Need-returns-3
 unfolding judgedAt
-returns-3 c = simp (sym (c .before .before .before .before .before .before .before .kind-of .ensures), sym (c .before .before .before .before .before .before .standing .ensures), eq-eqb _ _ (c .before .before .before .before .before .if1 .left), sym (c .before .before .before .before .extent-of .ensures), sym (c .before .before .before .room .ensures) ∙ ap checkGiven (c .before .enum-told .given .1)) (c .with-contents .ensures)
+returns-3 c = simp (sym (c .before .before .before .before .before .before .before .kind-of .ensures), sym (c .before .before .before .before .before .before .standing .ensures), eq-eqb _ _ (c .before .before .before .before .before .if1 .left), sym (c .before .before .before .before .extent-of .ensures), told checkGiven (c .before .before .before .room .ensures) (c .before .enum-told .given .1)) (c .with-contents .ensures)
 
 pub judged-spec : {M : Type 1} → statement M
 judged-spec =

@@ -1,5 +1,6 @@
 -- The length and the level decide what is made of `block_at`.
-use mathlib.Core.Path.{sym, _∙_, ap}
+use Rattle.fields.proofs.Judging.{told}
+use mathlib.Core.Path.{ap}
 use borrow.Author.Tests.{lt-ltb, le-ltb, eq-eqb, ne-eqb}
 use Rattle.fields.specs.Judged.{refusedBy}
 use Rattle.blocks.specs.Block.{blockIn, blockGiven}
@@ -29,11 +30,11 @@ enum-known-answer-2 c = search needs
 
 returns-3 : tie.Need-returns-3
 unfolding blockIn
-returns-3 c = simp (le-ltb _ _ (c .before .before .before .before .before .before .if1 .left), ne-eqb _ _ (c .before .before .before .before .if2 .left), sym (c .before .before .before .before .before .block-at .ensures) ∙ ap blockGiven (c .before .before .answer .given .1)) (ap refusedBy (c .in-chain .ensures))
+returns-3 c = simp (le-ltb _ _ (c .before .before .before .before .before .before .if1 .left), ne-eqb _ _ (c .before .before .before .before .if2 .left), told blockGiven (c .before .before .before .before .before .block-at .ensures) (c .before .before .answer .given .1)) (ap refusedBy (c .in-chain .ensures))
 
 returns-4 : tie.Need-returns-4
 unfolding blockIn
-returns-4 c = simp (le-ltb _ _ (c .before .before .before .before .before .if1 .left), ne-eqb _ _ (c .before .before .before .if2 .left), sym (c .before .before .before .before .block-at .ensures) ∙ ap blockGiven (c .before .answer2 .given .1))
+returns-4 c = simp (le-ltb _ _ (c .before .before .before .before .before .if1 .left), ne-eqb _ _ (c .before .before .before .if2 .left), told blockGiven (c .before .before .before .before .block-at .ensures) (c .before .answer2 .given .1))
 
 pub read-block-spec : {M : Type 1} → statement M
 read-block-spec =

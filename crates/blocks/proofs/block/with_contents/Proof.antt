@@ -1,4 +1,5 @@
 -- The kind decides, and then the chain's fields.
+use Rattle.fields.proofs.Judging.{told}
 use mathlib.Core.Path.{sym, _∙_, ap}
 use borrow.Author.Tests.{not-true, not-false}
 use lib.Seq.{length-take-le}
@@ -36,11 +37,11 @@ enum-known-contents c = search needs
 
 returns-2 : tie.Need-returns-2
 unfolding contentsAt
-returns-2 c = simp (sym (c .before .before .before .before .before .before .before .is-chain .ensures) ∙ not-false _ (c .before .before .before .before .before .before .if1 .left), sym (c .before .before .before .before .chain-at .ensures) ∙ ap runGiven (c .before .before .e .given .1)) (ap refusedBy (c .in-chain .ensures))
+returns-2 c = simp (sym (c .before .before .before .before .before .before .before .is-chain .ensures) ∙ not-false _ (c .before .before .before .before .before .before .if1 .left), told runGiven (c .before .before .before .before .chain-at .ensures) (c .before .before .e .given .1)) (ap refusedBy (c .in-chain .ensures))
 
 returns-3 : tie.Need-returns-3
 unfolding contentsAt
-returns-3 c = simp (sym (c .before .before .before .before .before .before .is-chain .ensures) ∙ not-false _ (c .before .before .before .before .before .if1 .left), sym (c .before .before .before .chain-at .ensures) ∙ ap runGiven (c .before .contents .given .1))
+returns-3 c = simp (sym (c .before .before .before .before .before .before .is-chain .ensures) ∙ not-false _ (c .before .before .before .before .before .if1 .left), told runGiven (c .before .before .before .chain-at .ensures) (c .before .contents .given .1))
 
 pub with-contents-spec : {M : Type 1} → statement M
 with-contents-spec =

@@ -1,6 +1,7 @@
 -- The name decides.
+use Rattle.fields.proofs.Judging.{told, name-within}
+use Rattle.fields.specs.Name.{nameGiven}
 use Rattle.blocks.specs.Chain.{chainAt}
-use Rattle.fields.proofs.Judging.{name-size, name-missing, name-long, name-within}
 use borrow.Author.Needs.{needs}
 use Rattle.blocks.proofs.chain.chain_at.Statement.{statement}
 use Rattle.blocks.proofs.chain.chain_at.Tie as tie
@@ -21,19 +22,20 @@ enum-known-size : tie.Need-enum-known-size
 enum-known-size c = search needs
 
 fields-after-name-requires : tie.Need-fields-after-name-requires
-fields-after-name-requires c κs = name-within _ _ _ (name-size _ _ _ _ (c .before .before .before .name-at .ensures) (c .before .size .given .1))
+unfolding nameGiven
+fields-after-name-requires c κs = name-within _ _ _ (told (nameGiven _) (c .before .before .before .name-at .ensures) (c .before .size .given .1))
 
 returns : tie.Need-returns
-unfolding chainAt
-returns c = simp (name-missing _ _ _ (c .before .before .before .name-at .ensures) (c .before .enum-told .given .1)) (c .truncated .ensures)
+unfolding chainAt nameGiven
+returns c = simp (told (nameGiven _) (c .before .before .before .name-at .ensures) (c .before .enum-told .given .1)) (c .truncated .ensures)
 
 returns-2 : tie.Need-returns-2
-unfolding chainAt
-returns-2 c = simp (name-long _ _ _ (c .before .before .name-at .ensures) (c .enum-told2 .given .1))
+unfolding chainAt nameGiven
+returns-2 c = simp (told (nameGiven _) (c .before .before .name-at .ensures) (c .enum-told2 .given .1))
 
 returns-3 : tie.Need-returns-3
-unfolding chainAt
-returns-3 c = simp (name-size _ _ _ _ (c .before .before .before .before .name-at .ensures) (c .before .before .size .given .1)) (c .fields-after-name .ensures)
+unfolding chainAt nameGiven
+returns-3 c = simp (told (nameGiven _) (c .before .before .before .before .name-at .ensures) (c .before .before .size .given .1)) (c .fields-after-name .ensures)
 
 pub chain-at-spec : {M : Type 1} → statement M
 chain-at-spec =

@@ -1,9 +1,9 @@
 -- The padding, and then the count.
-use mathlib.Core.Path.{sym, _∙_, ap}
+use Rattle.fields.proofs.Judging.{told}
+use Rattle.fields.specs.Field.{u32Given}
 use borrow.Author.Tests.{lt-ltb, le-ltb}
 use Rattle.blocks.specs.Chain.{countAt}
 use Rattle.blocks.specs.Padding.{checkGiven}
-use Rattle.fields.proofs.Judging.{u32-value, u32-missing}
 use borrow.Author.Needs.{needs}
 use Rattle.blocks.proofs.chain.count_at.Statement.{statement}
 use Rattle.blocks.proofs.chain.count_at.Tie as tie
@@ -37,19 +37,19 @@ truncated-requires-2 : tie.Need-truncated-requires-2
 truncated-requires-2 c κs = search needs
 
 returns-2 : tie.Need-returns-2
-unfolding countAt
-returns-2 c = simp (le-ltb _ _ (c .before .before .before .before .before .before .before .if1 .left), sym (c .before .before .before .before .before .before .zeros .ensures) ∙ ap checkGiven (c .before .before .before .before .enum-told .given .1), u32-missing _ _ _ (c .before .before .before .u32-at .ensures) (c .before .enum-told2 .given .1)) (c .truncated2 .ensures)
+unfolding countAt u32Given
+returns-2 c = simp (le-ltb _ _ (c .before .before .before .before .before .before .before .if1 .left), told checkGiven (c .before .before .before .before .before .before .zeros .ensures) (c .before .before .before .before .enum-told .given .1), told (u32Given _) (c .before .before .before .u32-at .ensures) (c .before .enum-told2 .given .1)) (c .truncated2 .ensures)
 
 add-t11 : tie.Need-add-t11
 add-t11 c = search needs
 
 returns-3 : tie.Need-returns-3
 unfolding countAt
-returns-3 c = simp (le-ltb _ _ (c .before .before .before .before .if1 .left), sym (c .before .before .before .zeros .ensures) ∙ ap checkGiven (c .before .e .given .1))
+returns-3 c = simp (le-ltb _ _ (c .before .before .before .before .if1 .left), told checkGiven (c .before .before .before .zeros .ensures) (c .before .e .given .1))
 
 returns-4 : tie.Need-returns-4
-unfolding countAt
-returns-4 c = simp (le-ltb _ _ (c .before .before .before .before .before .before .before .if1 .left), sym (c .before .before .before .before .before .before .zeros .ensures) ∙ ap checkGiven (c .before .before .before .before .enum-told .given .1), u32-value _ _ _ _ (c .before .before .before .u32-at .ensures) (c .before .count .given .1))
+unfolding countAt u32Given
+returns-4 c = simp (le-ltb _ _ (c .before .before .before .before .before .before .before .if1 .left), told checkGiven (c .before .before .before .before .before .before .zeros .ensures) (c .before .before .before .before .enum-told .given .1), told (u32Given _) (c .before .before .before .u32-at .ensures) (c .before .count .given .1))
 
 pub count-at-spec : {M : Type 1} → statement M
 count-at-spec =

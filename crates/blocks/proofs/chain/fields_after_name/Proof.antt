@@ -1,9 +1,10 @@
 -- Each field is read and judged in turn.
+use Rattle.fields.proofs.Judging.{told, field-within}
+use Rattle.fields.specs.Field.{u32Given}
 use mathlib.Core.Path.{sym}
 use native.Mathlib.Omega.{arith}
 use borrow.Author.Tests.{lt-ltb, le-ltb, eq-eqb, ne-eqb}
 use Rattle.blocks.specs.Chain.{fieldsAfterName}
-use Rattle.fields.proofs.Judging.{u32-value, u32-missing, field-within}
 use borrow.Author.Needs.{needs}
 use Rattle.blocks.proofs.chain.fields_after_name.Statement.{statement}
 use Rattle.blocks.proofs.chain.fields_after_name.Tie as tie
@@ -27,12 +28,12 @@ truncated-requires : tie.Need-truncated-requires
 truncated-requires c κs = search needs
 
 returns : tie.Need-returns
-unfolding fieldsAfterName
-returns c = simp (u32-missing _ _ _ (c .before .before .before .u32-at .ensures) (c .before .enum-told .given .1)) (c .truncated .ensures)
+unfolding fieldsAfterName u32Given
+returns c = simp (told (u32Given _) (c .before .before .before .u32-at .ensures) (c .before .enum-told .given .1)) (c .truncated .ensures)
 
 returns-2 : tie.Need-returns-2
-unfolding fieldsAfterName
-returns-2 c = simp (u32-value _ _ _ _ (c .before .before .before .before .u32-at .ensures) (c .before .before .kind .given .1), lt-ltb _ _ (c .if1 .taken))
+unfolding fieldsAfterName u32Given
+returns-2 c = simp (told (u32Given _) (c .before .before .before .before .u32-at .ensures) (c .before .before .kind .given .1), lt-ltb _ _ (c .if1 .taken))
 
 add-u32-at : tie.Need-add-u32-at
 add-u32-at c = search needs
@@ -53,15 +54,15 @@ truncated-requires-2 : tie.Need-truncated-requires-2
 truncated-requires-2 c κs = search needs
 
 returns-3 : tie.Need-returns-3
-unfolding fieldsAfterName
-returns-3 c = simp (u32-value _ _ _ _ (c .before .before .before .before .before .before .before .before .u32-at .ensures) (c .before .before .before .before .before .before .kind .given .1), le-ltb _ _ (c .before .before .before .before .if1 .left), u32-missing _ _ _ (c .before .before .before .u32-at2 .ensures) (c .before .enum-told2 .given .1)) (c .truncated2 .ensures)
+unfolding fieldsAfterName u32Given
+returns-3 c = simp (told (u32Given _) (c .before .before .before .before .before .before .before .before .u32-at .ensures) (c .before .before .before .before .before .before .kind .given .1), le-ltb _ _ (c .before .before .before .before .if1 .left), told (u32Given _) (c .before .before .before .u32-at2 .ensures) (c .before .enum-told2 .given .1)) (c .truncated2 .ensures)
 
 add-t13 : tie.Need-add-t13
 add-t13 c = search needs
 
 returns-4 : tie.Need-returns-4
-unfolding fieldsAfterName
-returns-4 c = simp (u32-value _ _ _ _ (c .before .before .before .before .before .before .before .before .before .u32-at .ensures) (c .before .before .before .before .before .before .before .kind .given .1), le-ltb _ _ (c .before .before .before .before .before .if1 .left), u32-value _ _ _ _ (c .before .before .before .before .u32-at2 .ensures) (c .before .before .attributes .given .1), ne-eqb _ _ (c .if2 .taken))
+unfolding fieldsAfterName u32Given
+returns-4 c = simp (told (u32Given _) (c .before .before .before .before .before .before .before .before .before .u32-at .ensures) (c .before .before .before .before .before .before .before .kind .given .1), le-ltb _ _ (c .before .before .before .before .before .if1 .left), told (u32Given _) (c .before .before .before .before .u32-at2 .ensures) (c .before .before .attributes .given .1), ne-eqb _ _ (c .if2 .taken))
 
 add-count-at : tie.Need-add-count-at
 add-count-at c = search needs
@@ -76,11 +77,12 @@ add-count-at-2 : tie.Need-add-count-at-2
 add-count-at-2 c = search needs
 
 count-at-requires : tie.Need-count-at-requires
-count-at-requires c κs = (omega (arith, field-within 4 _ _ _ (u32-value _ _ _ _ (c .before .before .before .before .before .u32-at2 .ensures) (c .before .before .before .attributes .given .1))), omega (arith, c .aligned .ensures))
+unfolding u32Given
+count-at-requires c κs = (omega (arith, field-within 4 _ _ _ (told (u32Given _) (c .before .before .before .before .before .u32-at2 .ensures) (c .before .before .before .attributes .given .1))), omega (arith, c .aligned .ensures))
 
 returns-5 : tie.Need-returns-5
-unfolding fieldsAfterName
-returns-5 c = simp (u32-value _ _ _ _ (c .before .before .before .before .before .before .before .before .before .before .before .u32-at .ensures) (c .before .before .before .before .before .before .before .before .before .kind .given .1), le-ltb _ _ (c .before .before .before .before .before .before .before .if1 .left), u32-value _ _ _ _ (c .before .before .before .before .before .before .u32-at2 .ensures) (c .before .before .before .before .attributes .given .1), eq-eqb _ _ (c .before .before .if2 .left), sym (c .before .aligned .ensures)) (c .count-at .ensures)
+unfolding fieldsAfterName u32Given
+returns-5 c = simp (told (u32Given _) (c .before .before .before .before .before .before .before .before .before .before .before .u32-at .ensures) (c .before .before .before .before .before .before .before .before .before .kind .given .1), le-ltb _ _ (c .before .before .before .before .before .before .before .if1 .left), told (u32Given _) (c .before .before .before .before .before .before .u32-at2 .ensures) (c .before .before .before .before .attributes .given .1), eq-eqb _ _ (c .before .before .if2 .left), sym (c .before .aligned .ensures)) (c .count-at .ensures)
 
 pub fields-after-name-spec : {M : Type 1} → statement M
 fields-after-name-spec =

@@ -1,5 +1,6 @@
 -- The size of the lines decides, and then they are stored.
-use mathlib.Core.Path.{sym, _∙_, ap}
+use Rattle.fields.proofs.Judging.{told}
+use mathlib.Core.Path.{_∙_}
 use Rattle.blocks.specs.File.{linesGiven}
 use Rattle.blocks.proofs.Files.{lines-refused, lines-short, lines-done, lines-stored}
 use borrow.Author.Needs.{needs}
@@ -16,7 +17,7 @@ enum-known-blocks : tie.Need-enum-known-blocks
 enum-known-blocks c = search needs
 
 returns : tie.Need-returns
-returns c = lines-short (c .before .before .before .before .before .before .before .args .file .now) (c .before .before .before .before .before .before .before .args .text .now) (record { blocks = c .before .before .blocks2 .given .0 .0; bytes = c .before .before .blocks2 .given .0 .1 .0 }) (sym (c .before .before .before .before .lines-size .ensures) ∙ ap linesGiven (c .before .before .blocks2 .given .1)) (c .if1 .taken)
+returns c = lines-short (c .before .before .before .before .before .before .before .args .file .now) (c .before .before .before .before .before .before .before .args .text .now) (record { blocks = c .before .before .blocks2 .given .0 .0; bytes = c .before .before .blocks2 .given .0 .1 .0 }) (told linesGiven (c .before .before .before .before .lines-size .ensures) (c .before .before .blocks2 .given .1)) (c .if1 .taken)
 
 slice-aggregate-walk-file : tie.Need-slice-aggregate-walk-file
 slice-aggregate-walk-file c = search needs
@@ -25,13 +26,13 @@ walk-file-requires : tie.Need-walk-file-requires
 walk-file-requires c κs = search needs
 
 returns-2 : tie.Need-returns-2
-returns-2 c = lines-refused (c .before .before .before .before .before .before .args .file .now) (c .before .before .before .before .before .before .args .text .now) _ _ (sym (c .before .before .before .lines-size .ensures) ∙ ap linesGiven (c .before .e .given .1))
+returns-2 c = lines-refused (c .before .before .before .before .before .before .args .file .now) (c .before .before .before .before .before .before .args .text .now) _ _ (told linesGiven (c .before .before .before .lines-size .ensures) (c .before .e .given .1))
 
 same-length : tie.Need-same-length
 same-length c = search needs
 
 returns-3 : tie.Need-returns-3
-returns-3 c = lines-done (c .before .before .before .before .before .before .before .before .before .before .before .before .before .args .file .now) (c .before .before .before .before .before .before .before .before .before .before .before .before .before .args .text .now) (record { blocks = c .before .before .before .before .before .before .before .before .blocks2 .given .0 .0; bytes = c .before .before .before .before .before .before .before .before .blocks2 .given .0 .1 .0 }) _ (sym (c .before .before .before .before .before .before .before .before .before .before .lines-size .ensures) ∙ ap linesGiven (c .before .before .before .before .before .before .before .before .blocks2 .given .1)) (c .before .before .before .before .before .before .if1 .left) (c .before .before .before .walk-file .ensures .1 .1 .0 ∙ lines-stored (c .before .before .before .before .before .before .before .before .before .before .before .before .before .args .file .now) _ (c .before .before .before .before .before .before .before .before .before .before .before .before .before .args .text .now))
+returns-3 c = lines-done (c .before .before .before .before .before .before .before .before .before .before .before .before .before .args .file .now) (c .before .before .before .before .before .before .before .before .before .before .before .before .before .args .text .now) (record { blocks = c .before .before .before .before .before .before .before .before .blocks2 .given .0 .0; bytes = c .before .before .before .before .before .before .before .before .blocks2 .given .0 .1 .0 }) _ (told linesGiven (c .before .before .before .before .before .before .before .before .before .before .lines-size .ensures) (c .before .before .before .before .before .before .before .before .blocks2 .given .1)) (c .before .before .before .before .before .before .if1 .left) (c .before .before .before .walk-file .ensures .1 .1 .0 ∙ lines-stored (c .before .before .before .before .before .before .before .before .before .before .before .before .before .args .file .now) _ (c .before .before .before .before .before .before .before .before .before .before .before .before .before .args .text .now))
 
 pub put-lines-spec : {M : Type 1} → statement M
 put-lines-spec =

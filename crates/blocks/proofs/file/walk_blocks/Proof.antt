@@ -1,5 +1,6 @@
 -- The number of rows decides, and then they are stored.
-use mathlib.Core.Path.{sym, _∙_, ap, subst}
+use Rattle.fields.proofs.Judging.{told}
+use mathlib.Core.Path.{_∙_, subst}
 use native.Mathlib.Omega.{arith}
 use Rattle.blocks.specs.Inside.{walkedGiven, ToldFits}
 use mathlib.Core.Bool.{false}
@@ -21,7 +22,7 @@ mul-if1 : tie.Need-mul-if1
 mul-if1 c = let f = subst (ToldFits _) (c .before .before .told .given .1) (c .before .before .before .before .measured .ensures .1) in omega (arith, f .0)
 
 returns : tie.Need-returns
-returns c = rows-short (c .before .before .before .before .before .before .before .before .args .file .now) (c .before .before .before .before .before .before .before .before .args .table .now) (c .before .before .before .told .given .0 .0) (sym (c .before .before .before .before .before .measured .ensures .0) ∙ ap walkedGiven (c .before .before .before .told .given .1)) (c .if1 .taken)
+returns c = rows-short (c .before .before .before .before .before .before .before .before .args .file .now) (c .before .before .before .before .before .before .before .before .args .table .now) (c .before .before .before .told .given .0 .0) (told walkedGiven (c .before .before .before .before .before .measured .ensures .0) (c .before .before .before .told .given .1)) (c .if1 .taken)
 
 slice-aggregate-walk-file : tie.Need-slice-aggregate-walk-file
 slice-aggregate-walk-file c = search needs
@@ -30,13 +31,13 @@ walk-file-requires : tie.Need-walk-file-requires
 walk-file-requires c κs = search needs
 
 returns-2 : tie.Need-returns-2
-returns-2 c = rows-refused (c .before .before .before .before .before .before .args .file .now) (c .before .before .before .before .before .before .args .table .now) _ _ (sym (c .before .before .before .measured .ensures .0) ∙ ap walkedGiven (c .before .e .given .1))
+returns-2 c = rows-refused (c .before .before .before .before .before .before .args .file .now) (c .before .before .before .before .before .before .args .table .now) _ _ (told walkedGiven (c .before .before .before .measured .ensures .0) (c .before .e .given .1))
 
 same-length : tie.Need-same-length
 same-length c = search needs
 
 returns-3 : tie.Need-returns-3
-returns-3 c = rows-done (c .before .before .before .before .before .before .before .before .before .before .before .before .before .before .args .file .now) (c .before .before .before .before .before .before .before .before .before .before .before .before .before .before .args .table .now) (c .before .before .before .before .before .before .before .before .before .told .given .0 .0) _ (sym (c .before .before .before .before .before .before .before .before .before .before .before .measured .ensures .0) ∙ ap walkedGiven (c .before .before .before .before .before .before .before .before .before .told .given .1)) (c .before .before .before .before .before .before .if1 .left) (c .before .before .before .walk-file .ensures .1 .0 ∙ words-stored (c .before .before .before .before .before .before .before .before .before .before .before .before .before .before .args .file .now) (c .before .before .before .before .before .before .before .before .before .before .before .before .before .before .args .table .now) _ false)
+returns-3 c = rows-done (c .before .before .before .before .before .before .before .before .before .before .before .before .before .before .args .file .now) (c .before .before .before .before .before .before .before .before .before .before .before .before .before .before .args .table .now) (c .before .before .before .before .before .before .before .before .before .told .given .0 .0) _ (told walkedGiven (c .before .before .before .before .before .before .before .before .before .before .before .measured .ensures .0) (c .before .before .before .before .before .before .before .before .before .told .given .1)) (c .before .before .before .before .before .before .if1 .left) (c .before .before .before .walk-file .ensures .1 .0 ∙ words-stored (c .before .before .before .before .before .before .before .before .before .before .before .before .before .before .args .file .now) (c .before .before .before .before .before .before .before .before .before .before .before .before .before .before .args .table .now) _ false)
 
 pub walk-blocks-spec : {M : Type 1} → statement M
 walk-blocks-spec =

@@ -1,4 +1,5 @@
 -- The first block decides.
+use Rattle.fields.proofs.Judging.{told}
 use mathlib.Core.Path.{sym, _∙_, ap}
 use Rattle.blocks.specs.Inside.{Stored, stored, answerOf, noneTold}
 use Rattle.blocks.specs.Header.{firstGiven}
@@ -17,12 +18,12 @@ enum-known-first : tie.Need-enum-known-first
 enum-known-first c = search needs
 
 walk-after-requires : tie.Need-walk-after-requires
-walk-after-requires c κs = let f = first-fits _ _ (sym (c .before .before .before .before .before .first-block .ensures) ∙ ap firstGiven (c .before .before .before .first .given .1)) in (f .starts, f .ends, f .small)
+walk-after-requires c κs = let f = first-fits _ _ (told firstGiven (c .before .before .before .before .before .first-block .ensures) (c .before .before .before .first .given .1)) in (f .starts, f .ends, f .small)
 
 returns : tie.Need-returns
 returns c =
     let a = c .before .before .before .before .before .before .before .args in
-    let q = file-refused (a .file .now) (a .lines) (a .table .now) (a .text .now) (c .before .e .given .0 .0) (sym (c .before .before .before .first-block .ensures) ∙ ap firstGiven (c .before .e .given .1)) in
+    let q = file-refused (a .file .now) (a .lines) (a .table .now) (a .text .now) (c .before .e .given .0 .0) (told firstGiven (c .before .before .before .first-block .ensures) (c .before .e .given .1)) in
     (q .answer, (q .in-table, (q .in-text, tt)))
 
 same-length : tie.Need-same-length
@@ -34,7 +35,7 @@ same-length-2 c = search needs
 returns-2 : tie.Need-returns-2
 returns-2 c =
     let a = c .before .before .before .before .before .before .before .before .before .before .before .before .before .before .args in
-    let e = ap (stored (a .table .now) (a .text .now) noneTold (a .lines)) (file-after (a .file .now) (c .before .before .before .before .before .before .before .before .first .given .0 .0) (sym (c .before .before .before .before .before .before .before .before .before .before .first-block .ensures) ∙ ap firstGiven (c .before .before .before .before .before .before .before .before .first .given .1))) in
+    let e = ap (stored (a .table .now) (a .text .now) noneTold (a .lines)) (file-after (a .file .now) (c .before .before .before .before .before .before .before .before .first .given .0 .0) (told firstGiven (c .before .before .before .before .before .before .before .before .before .before .first-block .ensures) (c .before .before .before .before .before .before .before .before .first .given .1))) in
     let w = c .before .before .before .before .walk-after .ensures in
     (w .0 ∙ ap answerOf (sym e), (w .1 .0 ∙ ap (λ (r : Stored). r .table) (sym e), (w .1 .1 .0 ∙ ap (λ (r : Stored). r .text) (sym e), w .1 .1 .1)))
 

@@ -1,5 +1,5 @@
 -- The first padding, and then the second.
-use mathlib.Core.Path.{sym, _∙_, ap}
+use Rattle.fields.proofs.Judging.{told}
 use Rattle.blocks.specs.Head.{paddingsOf}
 use Rattle.blocks.specs.Padding.{checkGiven}
 use borrow.Author.Needs.{needs}
@@ -20,11 +20,11 @@ zeros-requires-2 c κs = search needs
 
 returns : tie.Need-returns
 unfolding paddingsOf
-returns c = simp (sym (c .before .before .before .zeros .ensures) ∙ ap checkGiven (c .before .r .given .1))
+returns c = simp (told checkGiven (c .before .before .before .zeros .ensures) (c .before .r .given .1))
 
 returns-2 : tie.Need-returns-2
 unfolding paddingsOf
-returns-2 c = simp (sym (c .before .before .before .zeros .ensures) ∙ ap checkGiven (c .before .enum-told .given .1)) (c .zeros2 .ensures)
+returns-2 c = simp (told checkGiven (c .before .before .before .zeros .ensures) (c .before .enum-told .given .1)) (c .zeros2 .ensures)
 
 pub paddings-spec : {M : Type 1} → statement M
 paddings-spec =

@@ -1,5 +1,5 @@
 -- The length, the leading numbers, and then the rest.
-use mathlib.Core.Path.{sym, _∙_, ap}
+use Rattle.fields.proofs.Judging.{told}
 use borrow.Author.Tests.{lt-ltb, le-ltb}
 use Rattle.blocks.specs.Header.{firstOf}
 use Rattle.blocks.specs.Head.{headGiven}
@@ -25,11 +25,11 @@ judged-header-requires c κs = search needs
 
 returns-2 : tie.Need-returns-2
 unfolding firstOf
-returns-2 c = simp (le-ltb _ _ (c .before .before .before .before .if1 .left), sym (c .before .before .before .head-at .ensures) ∙ ap headGiven (c .before .e .given .1))
+returns-2 c = simp (le-ltb _ _ (c .before .before .before .before .if1 .left), told headGiven (c .before .before .before .head-at .ensures) (c .before .e .given .1))
 
 returns-3 : tie.Need-returns-3
 unfolding firstOf
-returns-3 c = simp (le-ltb _ _ (c .before .before .before .before .before .if1 .left), sym (c .before .before .before .before .head-at .ensures) ∙ ap headGiven (c .before .before .head .given .1)) (c .judged-header .ensures)
+returns-3 c = simp (le-ltb _ _ (c .before .before .before .before .before .if1 .left), told headGiven (c .before .before .before .before .head-at .ensures) (c .before .before .head .given .1)) (c .judged-header .ensures)
 
 pub first-block-spec : {M : Type 1} → statement M
 first-block-spec =

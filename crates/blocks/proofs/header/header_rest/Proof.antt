@@ -1,5 +1,6 @@
 -- The room, and then the paddings.
-use mathlib.Core.Path.{sym, _∙_, ap}
+use Rattle.fields.proofs.Judging.{told}
+use mathlib.Core.Path.{sym}
 use Rattle.blocks.specs.Header.{restOf}
 use Rattle.blocks.specs.Padding.{checkGiven}
 use Rattle.blocks.proofs.Fits.{room-within}
@@ -20,7 +21,7 @@ enum-told : tie.Need-enum-told
 enum-told c = search needs
 
 paddings-requires : tie.Need-paddings-requires
-paddings-requires c κs = let w = room-within _ _ _ _ (sym (c .before .before .room .ensures) ∙ ap checkGiven (c .enum-told .given .1)) in (w .1, w .2)
+paddings-requires c κs = let w = room-within _ _ _ _ (told checkGiven (c .before .before .room .ensures) (c .enum-told .given .1)) in (w .1, w .2)
 
 enum-known-e-2 : tie.Need-enum-known-e-2
 enum-known-e-2 c = search needs
@@ -30,15 +31,15 @@ enum-told-2 c = search needs
 
 returns : tie.Need-returns
 unfolding restOf
-returns c = simp (sym (c .before .before .before .before .extent-of .ensures), sym (c .before .before .before .room .ensures) ∙ ap checkGiven (c .before .e .given .1))
+returns c = simp (sym (c .before .before .before .before .extent-of .ensures), told checkGiven (c .before .before .before .room .ensures) (c .before .e .given .1))
 
 returns-2 : tie.Need-returns-2
 unfolding restOf
-returns-2 c = simp (sym (c .before .before .before .before .before .before .before .extent-of .ensures), sym (c .before .before .before .before .before .before .room .ensures) ∙ ap checkGiven (c .before .before .before .before .enum-told .given .1), sym (c .before .before .before .paddings .ensures) ∙ ap checkGiven (c .before .e2 .given .1))
+returns-2 c = simp (sym (c .before .before .before .before .before .before .before .extent-of .ensures), told checkGiven (c .before .before .before .before .before .before .room .ensures) (c .before .before .before .before .enum-told .given .1), told checkGiven (c .before .before .before .paddings .ensures) (c .before .e2 .given .1))
 
 returns-3 : tie.Need-returns-3
 unfolding restOf
-returns-3 c = simp (sym (c .before .before .before .before .before .before .extent-of .ensures), sym (c .before .before .before .before .before .room .ensures) ∙ ap checkGiven (c .before .before .before .enum-told .given .1), sym (c .before .before .paddings .ensures) ∙ ap checkGiven (c .enum-told2 .given .1))
+returns-3 c = simp (sym (c .before .before .before .before .before .before .extent-of .ensures), told checkGiven (c .before .before .before .before .before .room .ensures) (c .before .before .before .enum-told .given .1), told checkGiven (c .before .before .paddings .ensures) (c .enum-told2 .given .1))
 
 pub header-rest-spec : {M : Type 1} → statement M
 header-rest-spec =

@@ -1,5 +1,5 @@
 -- Each part is judged in turn.
-use mathlib.Core.Path.{sym, _∙_, ap}
+use Rattle.fields.proofs.Judging.{told}
 use borrow.Author.Tests.{lt-ltb, le-ltb, eq-eqb, ne-eqb}
 use Rattle.blocks.specs.Header.{judgedOf, versionGiven, fieldsGiven}
 use borrow.Author.Needs.{needs}
@@ -41,15 +41,15 @@ header-rest-requires c κs = search needs
 
 returns-4 : tie.Need-returns-4
 unfolding judgedOf
-returns-4 c = simp (eq-eqb _ _ (c .before .before .before .before .before .before .before .if1 .left), eq-eqb _ _ (c .before .before .before .before .before .if2 .left), le-ltb _ _ (c .before .before .before .before .if3 .left), sym (c .before .before .before .version-fields .ensures) ∙ ap versionGiven (c .before .e .given .1))
+returns-4 c = simp (eq-eqb _ _ (c .before .before .before .before .before .before .before .if1 .left), eq-eqb _ _ (c .before .before .before .before .before .if2 .left), le-ltb _ _ (c .before .before .before .before .if3 .left), told versionGiven (c .before .before .before .version-fields .ensures) (c .before .e .given .1))
 
 returns-5 : tie.Need-returns-5
 unfolding judgedOf
-returns-5 c = simp (eq-eqb _ _ (c .before .before .before .before .before .before .before .before .before .before .before .if1 .left), eq-eqb _ _ (c .before .before .before .before .before .before .before .before .before .if2 .left), le-ltb _ _ (c .before .before .before .before .before .before .before .before .if3 .left), sym (c .before .before .before .before .before .before .before .version-fields .ensures) ∙ ap versionGiven (c .before .before .before .before .before .version .given .1), sym (c .before .before .before .header-fields .ensures) ∙ ap fieldsGiven (c .before .e2 .given .1))
+returns-5 c = simp (eq-eqb _ _ (c .before .before .before .before .before .before .before .before .before .before .before .if1 .left), eq-eqb _ _ (c .before .before .before .before .before .before .before .before .before .if2 .left), le-ltb _ _ (c .before .before .before .before .before .before .before .before .if3 .left), told versionGiven (c .before .before .before .before .before .before .before .version-fields .ensures) (c .before .before .before .before .before .version .given .1), told fieldsGiven (c .before .before .before .header-fields .ensures) (c .before .e2 .given .1))
 
 returns-6 : tie.Need-returns-6
 unfolding judgedOf
-returns-6 c = simp (eq-eqb _ _ (c .before .before .before .before .before .before .before .before .before .before .before .before .if1 .left), eq-eqb _ _ (c .before .before .before .before .before .before .before .before .before .before .if2 .left), le-ltb _ _ (c .before .before .before .before .before .before .before .before .before .if3 .left), sym (c .before .before .before .before .before .before .before .before .version-fields .ensures) ∙ ap versionGiven (c .before .before .before .before .before .before .version .given .1), sym (c .before .before .before .before .header-fields .ensures) ∙ ap fieldsGiven (c .before .before .fields .given .1)) (c .header-rest .ensures)
+returns-6 c = simp (eq-eqb _ _ (c .before .before .before .before .before .before .before .before .before .before .before .before .if1 .left), eq-eqb _ _ (c .before .before .before .before .before .before .before .before .before .before .if2 .left), le-ltb _ _ (c .before .before .before .before .before .before .before .before .before .if3 .left), told versionGiven (c .before .before .before .before .before .before .before .before .version-fields .ensures) (c .before .before .before .before .before .before .version .given .1), told fieldsGiven (c .before .before .before .before .header-fields .ensures) (c .before .before .fields .given .1)) (c .header-rest .ensures)
 
 pub judged-header-spec : {M : Type 1} → statement M
 judged-header-spec =

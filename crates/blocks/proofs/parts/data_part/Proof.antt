@@ -1,5 +1,5 @@
 -- The leading numbers decide the part.
-use mathlib.Core.Path.{sym, _∙_, ap}
+use Rattle.fields.proofs.Judging.{told}
 use native.Mathlib.Omega.{arith}
 use Rattle.blocks.specs.Parts.{dataPart}
 use Rattle.blocks.specs.Head.{headGiven}
@@ -21,7 +21,7 @@ enum-known-head : tie.Need-enum-known-head
 enum-known-head c = search needs
 
 add-bytes-at : tie.Need-add-bytes-at
-add-bytes-at c = omega (arith, head-in-within _ _ _ (sym (c .before .before .before .head-in .ensures) ∙ ap headGiven (c .before .head .given .1)))
+add-bytes-at c = omega (arith, head-in-within _ _ _ (told headGiven (c .before .before .before .head-in .ensures) (c .before .head .given .1)))
 
 cast-bytes-at : tie.Need-cast-bytes-at
 cast-bytes-at c = search needs
@@ -31,11 +31,11 @@ bytes-at-requires c κs = search needs
 
 returns : tie.Need-returns
 unfolding dataPart
-returns c = simp (sym (c .before .before .before .head-in .ensures) ∙ ap headGiven (c .before .enum-told .given .1))
+returns c = simp (told headGiven (c .before .before .before .head-in .ensures) (c .before .enum-told .given .1))
 
 returns-2 : tie.Need-returns-2
 unfolding dataPart
-returns-2 c = simp (sym (c .before .before .before .before .before .head-in .ensures) ∙ ap headGiven (c .before .before .before .head .given .1)) (c .bytes-at .ensures)
+returns-2 c = simp (told headGiven (c .before .before .before .before .before .head-in .ensures) (c .before .before .before .head .given .1)) (c .bytes-at .ensures)
 
 pub data-part-spec : {M : Type 1} → statement M
 data-part-spec =

@@ -1,5 +1,6 @@
 -- The leading numbers decide the part.
-use mathlib.Core.Path.{sym, _∙_, ap}
+use Rattle.fields.proofs.Judging.{told}
+use mathlib.Core.Path.{sym}
 use Rattle.blocks.specs.Parts.{metaPart}
 use Rattle.blocks.specs.Head.{headGiven}
 use Rattle.blocks.proofs.Fits.{head-in-within}
@@ -20,7 +21,7 @@ enum-known-head : tie.Need-enum-known-head
 enum-known-head c = search needs
 
 extent-of-requires : tie.Need-extent-of-requires
-extent-of-requires c κs = head-in-within _ _ _ (sym (c .before .before .before .head-in .ensures) ∙ ap headGiven (c .before .head .given .1)) .1
+extent-of-requires c κs = head-in-within _ _ _ (told headGiven (c .before .before .before .head-in .ensures) (c .before .head .given .1)) .1
 
 cast-bytes-at : tie.Need-cast-bytes-at
 cast-bytes-at c = search needs
@@ -30,11 +31,11 @@ bytes-at-requires c κs = search needs
 
 returns : tie.Need-returns
 unfolding metaPart
-returns c = simp (sym (c .before .before .before .head-in .ensures) ∙ ap headGiven (c .before .enum-told .given .1))
+returns c = simp (told headGiven (c .before .before .before .head-in .ensures) (c .before .enum-told .given .1))
 
 returns-2 : tie.Need-returns-2
 unfolding metaPart
-returns-2 c = simp (sym (c .before .before .before .before .before .before .head-in .ensures) ∙ ap headGiven (c .before .before .before .before .head .given .1), sym (c .before .before .extent-of .ensures)) (c .bytes-at .ensures)
+returns-2 c = simp (told headGiven (c .before .before .before .before .before .before .head-in .ensures) (c .before .before .before .before .head .given .1), sym (c .before .before .extent-of .ensures)) (c .bytes-at .ensures)
 
 pub meta-part-spec : {M : Type 1} → statement M
 meta-part-spec =

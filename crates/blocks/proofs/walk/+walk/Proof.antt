@@ -1,5 +1,6 @@
 -- The invariant is one equation: what was to be told at the call is what is still to be told. Each turn takes it one step on by a law
 -- of Turns; the call of the walk itself, with one level less, is one of these steps.
+use Rattle.fields.proofs.Judging.{told}
 use Prim.Native.Nat.{ℕ, _+_, _-_, _*_, _<_, _≤_}
 use mathlib.Core.Bool.{Bool, false}
 use mathlib.Core.Logic.{⊎-elim}
@@ -111,7 +112,7 @@ module _ (t : ℕ) (c : Here t) where
   rest = restOf levels-left (c .before .before .before .before .before .before .before .before .before .before .before .before .before .before .before .before .before .loop .left) file block
 
   found : blockAt file start levels-left (c .before .before .before .before .before .before .before .before .before .before .before .before .before .before .before .before .before .loop .continued) ≡ done block
-  found = sym (c .before .before .before .before .before .before .before .before .before .before .before .before .before .block-at .ensures) ∙ ap blockGiven (c .before .before .before .before .before .before .before .before .before .before .before .b .given .1)
+  found = told blockGiven (c .before .before .before .before .before .before .before .before .before .before .before .before .before .block-at .ensures) (c .before .before .before .before .before .before .before .before .before .before .before .b .given .1)
 
   fits : BlockFits (length file) start levels-left block
   fits = block-fits file start levels-left (c .before .before .before .before .before .before .before .before .before .before .before .before .before .before .before .before .before .loop .continued) block found
@@ -204,7 +205,7 @@ walk-same-length-4 t c = c .before .before .before .before .before .before .befo
 walk-returns-2 : (t : ℕ) → walk-lts.Need-returns-2 (claims t) (walk-at t) walk.Post walk-Inv-loop walk-μ-loop
 walk-returns-2 t c =
     let e = c .before .e .given .0 .0 in
-    let q = answer-refused _ (c .before .before .before .before .before .before .before .loop .table) (c .before .before .before .before .before .before .before .loop .text) (c .before .before .before .before .before .before .before .loop .told) (c .before .before .before .before .before .before .before .before .before .before .before .args .lines) e (c .before .before .before .before .before .before .before .loop .inv .5 ∙ block-refused (c .before .before .before .before .before .before .before .before .before .before .before .args .s .now) (c .before .before .before .before .before .before .before .before .before .before .before .args .remaining) (c .before .before .before .before .before .before .before .before .before .before .before .args .lines) (c .before .before .before .before .before .before .before .loop .table) (c .before .before .before .before .before .before .before .loop .text) (c .before .before .before .before .before .before .before .loop .told) (c .before .before .before .before .before .before .before .loop .left) (c .before .before .before .before .before .before .before .loop .at) (c .before .before .before .before .before .before .before .loop .continued) (e .number) (e .place) (c .before .before .before .before .before .before .loop-test .taken) (sym (c .before .before .before .before .before .file-ends .ensures) ∙ c .before .before .before .before .if1 .left) (sym (c .before .before .before .block-at .ensures) ∙ ap blockGiven (c .before .e .given .1))) in
+    let q = answer-refused _ (c .before .before .before .before .before .before .before .loop .table) (c .before .before .before .before .before .before .before .loop .text) (c .before .before .before .before .before .before .before .loop .told) (c .before .before .before .before .before .before .before .before .before .before .before .args .lines) e (c .before .before .before .before .before .before .before .loop .inv .5 ∙ block-refused (c .before .before .before .before .before .before .before .before .before .before .before .args .s .now) (c .before .before .before .before .before .before .before .before .before .before .before .args .remaining) (c .before .before .before .before .before .before .before .before .before .before .before .args .lines) (c .before .before .before .before .before .before .before .loop .table) (c .before .before .before .before .before .before .before .loop .text) (c .before .before .before .before .before .before .before .loop .told) (c .before .before .before .before .before .before .before .loop .left) (c .before .before .before .before .before .before .before .loop .at) (c .before .before .before .before .before .before .before .loop .continued) (e .number) (e .place) (c .before .before .before .before .before .before .loop-test .taken) (sym (c .before .before .before .before .before .file-ends .ensures) ∙ c .before .before .before .before .if1 .left) (told blockGiven (c .before .before .before .block-at .ensures) (c .before .e .given .1))) in
     (q .answer, (q .in-table, (q .in-text, tt)))
 
 walk-row-of-requires : (t : ℕ) → walk-lts.Need-row-of-requires (claims t) (walk-at t) walk.Post walk-Inv-loop walk-μ-loop
@@ -274,7 +275,7 @@ walk-returns-4 : (t : ℕ) → walk-lts.Need-returns-4 (claims t) (walk-at t) wa
 walk-returns-4 t c =
     let e = c .before .e2 .given .0 .0 in
     let q = answer-refused _ (c .before .before .before .before .if2 .table) (c .before .before .before .before .if2 .text) (c .before .before .before .before .if2 .told) (lines t (c .before .before .before .before .before)) e
-    (past t (c .before .before .before .before) .still-told ∙ paddings-refused (file t (c .before .before .before .before .before)) (levels-left t (c .before .before .before .before .before)) (lines t (c .before .before .before .before .before)) (block t (c .before .before .before .before .before)) (c .before .before .before .before .if2 .table) (c .before .before .before .before .if2 .text) (c .before .before .before .before .if2 .told) (walkOf (levels-left t (c .before .before .before .before .before)) (c .before .before .before .before .before .before .before .before .before .before .before .before .before .before .before .before .before .before .before .before .before .before .loop .left - 1) (file t (c .before .before .before .before .before)) (block t (c .before .before .before .before .before) .extent .next) (isContinuation (block t (c .before .before .before .before .before) .kind))) (e .number) (e .place) (sym (c .before .before .before .paddings .ensures) ∙ ap checkGiven (c .before .e2 .given .1))) in
+    (past t (c .before .before .before .before) .still-told ∙ paddings-refused (file t (c .before .before .before .before .before)) (levels-left t (c .before .before .before .before .before)) (lines t (c .before .before .before .before .before)) (block t (c .before .before .before .before .before)) (c .before .before .before .before .if2 .table) (c .before .before .before .before .if2 .text) (c .before .before .before .before .if2 .told) (walkOf (levels-left t (c .before .before .before .before .before)) (c .before .before .before .before .before .before .before .before .before .before .before .before .before .before .before .before .before .before .before .before .before .before .loop .left - 1) (file t (c .before .before .before .before .before)) (block t (c .before .before .before .before .before) .extent .next) (isContinuation (block t (c .before .before .before .before .before) .kind))) (e .number) (e .place) (told checkGiven (c .before .before .before .paddings .ensures) (c .before .e2 .given .1))) in
     (q .answer, (q .in-table, (q .in-text, tt)))
 
 walk-sub-left : (t : ℕ) → walk-lts.Need-sub-left (claims t) (walk-at t) walk.Post walk-Inv-loop walk-μ-loop
@@ -295,7 +296,7 @@ walk-loop-again t c =
       omega (arith, p .bytes, f .data-padding, f .meta-data, f .meta-padding),
       p .table-length,
       p .text-length,
-      p .still-told ∙ paddings-fine (file t (c .before .before .before .before .before)) (levels-left t (c .before .before .before .before .before)) (lines t (c .before .before .before .before .before)) (block t (c .before .before .before .before .before)) (c .before .before .before .before .if2 .table) (c .before .before .before .before .if2 .text) (c .before .before .before .before .if2 .told) (walkOf (levels-left t (c .before .before .before .before .before)) (c .before .before .before .before .before .before .before .before .before .before .before .before .before .before .before .before .before .before .before .before .before .before .loop .left - 1) (file t (c .before .before .before .before .before)) (block t (c .before .before .before .before .before) .extent .next) (isContinuation (block t (c .before .before .before .before .before) .kind))) tt (sym (c .before .before .before .paddings .ensures) ∙ ap checkGiven (c .before .enum-told2 .given .1))
+      p .still-told ∙ paddings-fine (file t (c .before .before .before .before .before)) (levels-left t (c .before .before .before .before .before)) (lines t (c .before .before .before .before .before)) (block t (c .before .before .before .before .before)) (c .before .before .before .before .if2 .table) (c .before .before .before .before .if2 .text) (c .before .before .before .before .if2 .told) (walkOf (levels-left t (c .before .before .before .before .before)) (c .before .before .before .before .before .before .before .before .before .before .before .before .before .before .before .before .before .before .before .before .before .before .loop .left - 1) (file t (c .before .before .before .before .before)) (block t (c .before .before .before .before .before) .extent .next) (isContinuation (block t (c .before .before .before .before .before) .kind))) tt (told checkGiven (c .before .before .before .paddings .ensures) (c .before .enum-told2 .given .1))
           ∙ ap (λ (k : Bool). stored (c .before .before .before .before .if2 .table) (c .before .before .before .before .if2 .text) (c .before .before .before .before .if2 .told) (lines t (c .before .before .before .before .before)) (walkOf (levels-left t (c .before .before .before .before .before)) (c .before .before .before .before .before .before .before .before .before .before .before .before .before .before .before .before .before .before .before .before .before .before .loop .left - 1) (file t (c .before .before .before .before .before)) (block t (c .before .before .before .before .before) .extent .next) k)) (sym (c .is-continuation .ensures)),
     )
 

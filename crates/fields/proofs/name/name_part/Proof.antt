@@ -1,7 +1,7 @@
 -- Each answer of `name_at` decides the part.
+use Rattle.fields.proofs.Judging.{told, name-within}
+use Rattle.fields.specs.Name.{nameGiven, namePart}
 use native.Mathlib.Omega.{arith}
-use Rattle.fields.specs.Name.{namePart}
-use Rattle.fields.proofs.Judging.{name-size, name-missing, name-long, name-within}
 use borrow.Author.Needs.{needs}
 use Rattle.fields.proofs.name.name_part.Statement.{statement}
 use Rattle.fields.proofs.name.name_part.Tie as tie
@@ -25,22 +25,23 @@ enum-known-size : tie.Need-enum-known-size
 enum-known-size c = search needs
 
 add-bytes-at : tie.Need-add-bytes-at
-add-bytes-at c = omega (arith, name-within _ _ _ (name-size _ _ _ _ (c .before .before .before .name-at .ensures) (c .before .size .given .1)) .0)
+unfolding nameGiven
+add-bytes-at c = omega (arith, name-within _ _ _ (told (nameGiven _) (c .before .before .before .name-at .ensures) (c .before .size .given .1)) .0)
 
 bytes-at-requires : tie.Need-bytes-at-requires
 bytes-at-requires c κs = search needs
 
 returns : tie.Need-returns
-unfolding namePart
-returns c = simp (name-missing _ _ _ (c .before .before .before .name-at .ensures) (c .before .enum-told .given .1))
+unfolding namePart nameGiven
+returns c = simp (told (nameGiven _) (c .before .before .before .name-at .ensures) (c .before .enum-told .given .1))
 
 returns-2 : tie.Need-returns-2
-unfolding namePart
-returns-2 c = simp (name-long _ _ _ (c .before .before .before .name-at .ensures) (c .before .enum-told2 .given .1))
+unfolding namePart nameGiven
+returns-2 c = simp (told (nameGiven _) (c .before .before .before .name-at .ensures) (c .before .enum-told2 .given .1))
 
 returns-3 : tie.Need-returns-3
-unfolding namePart
-returns-3 c = simp (name-size _ _ _ _ (c .before .before .before .before .name-at .ensures) (c .before .before .size .given .1)) (c .bytes-at .ensures)
+unfolding namePart nameGiven
+returns-3 c = simp (told (nameGiven _) (c .before .before .before .before .name-at .ensures) (c .before .before .size .given .1)) (c .bytes-at .ensures)
 
 pub name-part-spec : {M : Type 1} → statement M
 name-part-spec =
