@@ -1,5 +1,4 @@
 -- Laws that belong to no one function.
-pub mod Values
 pub mod Members
 pub mod Zeros
 pub mod Fits

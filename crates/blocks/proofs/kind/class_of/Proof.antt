@@ -1,7 +1,7 @@
 -- The table is the list of the classes of 0 to 255, which antt computes.
 use borrow.Author.Needs.{needs}
 use Rattle.blocks.specs.Kind.{classOf}
-use Rattle.blocks.proofs.Values.{value-at}
+use Rattle.fields.proofs.Values.{value-at}
 use Rattle.blocks.proofs.kind.class_of.Statement.{statement}
 use Rattle.blocks.proofs.kind.class_of.Tie as tie
 

@@ -1,5 +1,5 @@
 -- A constant table that is the list of a rule's values has the rule's value at each place. That the table is that list is computed
--- where the law is used, so the table is not written down again. Assumes nothing.
+-- where the law is used, so the table is not written down again.
 use mathlib.Core.Path.{_≡_, ap, _∙_}
 use mathlib.Core.List.{List, [], _∷_}
 use Prim.Native.Nat.{ℕ, zero, suc, _+_, _<_}

@@ -1,0 +1,103 @@
+-- Everything that is written is one symbol and then plain bytes: the state after both, the bits of both, and what the call answers.
+use Prim.Native.Nat.{ℕ, zero, suc, _+_, _/_, _≤_, _<_}
+use Rattle.coder.proofs.Sequence.{all-least, all-more}
+use Rattle.coder.proofs.Tests.{first-some}
+use Rattle.coder.specs.Bytes.{padded, putBits, storeBits}
+use Rattle.coder.specs.Forms.{fits}
+use Rattle.coder.specs.Inside.{Holds, roomNumber}
+use Rattle.coder.specs.Interval.{Coder, Span, afterSymbol, largestRange, symbolBits}
+use Rattle.coder.specs.Symbols.{afterSymbols, byteSpan, plainSpans, staticSpan, staticSpans, symbolsBits}
+use Rattle.coder.specs.Writing.{Write, Writer, write, writeFault, writeNumber}
+use Rattle.fields.specs.Limits.{largestFile}
+use Rattle.fields.specs.Numbers.{badState, noRoom, outOfRange}
+use borrow.Author.Tests.{le-leb, leb-true, lt-leb}
+use lib.ListN.{length}
+use mathlib.Core.Bool.{Bool, true, false, _||_}
+use mathlib.Core.List.{List, _∷_}
+use mathlib.Core.Path.{_≡_, ap, refl, sym, _∙_}
+use native.Mathlib.Numerals.{add-one}
+use native.Mathlib.Omega.{arith}
+
+pub after-led : (s t u : Coder) (a : Span) (more : List Span) → t ≡ afterSymbol s a → u ≡ afterSymbols t more → u ≡ afterSymbols s (a ∷ more)
+unfolding afterSymbols
+after-led s t u a more e d = rw (d, e)
+
+pub bits-led : (s t : Coder) (a : Span) (more : List Span) (l l′ l″ : List ℕ) → t ≡ afterSymbol s a → l′ ≡ putBits l (s .settled) (symbolBits s a)
+    → l″ ≡ putBits l′ (t .settled) (symbolsBits t more) → l″ ≡ putBits l (s .settled) (symbolsBits s (a ∷ more))
+bits-led s t a more l l′ l″ e put puts = rw (puts, put, e) (all-more s a more l)
+
+pub holds : (s : Coder) (l : List ℕ) → length l ≤ largestFile → fits s (length l) ≡ true → Holds l s
+holds s l small e = record { small = small; within = leb-true _ _ e }
+
+-- what holds the bits after more symbols holds those before them
+pub led-holds : (t u : Coder) (more : List Span) (l : List ℕ) → u ≡ afterSymbols t more → Holds l u → Holds l t
+led-holds t u more l e h = let h′ : Holds l (afterSymbols t more) = rw (← e) h in omega (arith, all-least more t)
+
+module _ (w : Writer) (l : List ℕ) (compresses : Bool) (spans : List Span) (t : Coder) (next : t ≡ afterSymbols (w .coder) spans) where
+  pub led-fits : (b : Bool) → fits t (length l) ≡ b → b ≡ fits (afterSymbols (w .coder) spans) (length l)
+  led-fits b e = rw (← next) (sym e)
+
+  pub led-refused : fits t (length l) ≡ false → record { number = noRoom; writer = w; bytes = l } ≡ write (roomNumber l (afterSymbols (w .coder) spans)) l w compresses spans
+  unfolding write
+  led-refused no-room = rw (← next, no-room)
+
+  pub led-done : (flag : Bool) (l′ l″ : List ℕ) → fits t (length l) ≡ true → l′ ≡ padded l (w .coder .settled)
+      → l″ ≡ putBits l′ (w .coder .settled) (symbolsBits (w .coder) spans) → flag ≡ (w .compressed || compresses)
+      → record { number = 0; writer = record { coder = t; compressed = flag }; bytes = l″ } ≡ write (roomNumber l (afterSymbols (w .coder) spans)) l w compresses spans
+  unfolding write storeBits
+  led-done flag l′ l″ fit pad put set = rw (put, pad, set, ← next, fit, next) refl
+
+-- ---- a whole call
+
+-- a call that is refused gives back the state that was handed in, and leaves the buffer
+pub write-refused : {n m : ℕ} {l : List ℕ} {w : Writer} (compresses : Bool) (spans : List Span) → (n ≡ 0 → ⊥) → n ≡ m
+    → record { number = n; writer = w; bytes = l } ≡ write m l w compresses spans
+unfolding write
+write-refused {n} {m} {l} {w} compresses spans some same = go n some ∙ ap (λ (k : ℕ). write k l w compresses spans) same
+  where
+    go : (k : ℕ) → (k ≡ 0 → ⊥) → record { number = k; writer = w; bytes = l } ≡ write k l w compresses spans
+    go zero other = absurd (other refl)
+    go (suc k) other = refl
+
+module _ (l : List ℕ) (s : Coder) (contextGood valueGood : Bool) (next : Coder) (fault : ℕ) (judged : fault ≡ writeFault s (length l)) where
+  pub number-fault : (fault ≡ 0 → ⊥) → fault ≡ writeNumber l s contextGood valueGood next
+  unfolding writeNumber
+  number-fault some = rw (← judged) (first-some fault _ some)
+
+  module _ (none : fault ≡ 0) where
+    sound : writeFault s (length l) ≡ 0
+    sound = sym judged ∙ none
+
+    pub number-context : contextGood ≡ false → badState ≡ writeNumber l s contextGood valueGood next
+    unfolding writeNumber
+    number-context bad = rw (sound, bad)
+
+    pub number-value : contextGood ≡ true → valueGood ≡ false → outOfRange ≡ writeNumber l s contextGood valueGood next
+    unfolding writeNumber
+    number-value good bad = rw (sound, good, bad)
+
+    pub number-room : contextGood ≡ true → valueGood ≡ true → roomNumber l next ≡ writeNumber l s contextGood valueGood next
+    unfolding writeNumber
+    number-room good fine = rw (sound, good, fine)
+
+-- a call at no fault is a symbol and plain bytes, whose room alone is judged
+pub led-judged : (l : List ℕ) (w : Writer) (compresses contextGood valueGood : Bool) (led spans : List Span) (fault : ℕ) (r : Write)
+    → fault ≡ writeFault (w .coder) (length l) → fault ≡ 0 → contextGood ≡ true → valueGood ≡ true → led ≡ spans
+    → r ≡ write (roomNumber l (afterSymbols (w .coder) led)) l w compresses led
+    → r ≡ write (writeNumber l (w .coder) contextGood valueGood (afterSymbols (w .coder) spans)) l w compresses spans
+led-judged l w compresses contextGood valueGood led spans fault r judged none good fine same wrote =
+    (rw same at wrote) ∙ ap (λ (n : ℕ). write n l w compresses spans) (number-room l (w .coder) contextGood valueGood _ fault judged none good fine)
+
+-- ---- the symbols of a value, as one and the plain bytes after it
+
+pub static-one : (range v : ℕ) → range ≤ largestRange → staticSpan range v ∷ plainSpans 0 0 ≡ staticSpans range v
+unfolding staticSpans plainSpans
+static-one range v h = rw (le-leb _ _ h, staticSpans)
+
+pub plain-led : (n v : ℕ) → byteSpan v ∷ plainSpans n (v / 256) ≡ plainSpans (n + 1) v
+unfolding plainSpans
+plain-led n v = rw add-one
+
+pub static-plain : (range v : ℕ) → largestRange < range → byteSpan v ∷ plainSpans 3 (v / 256) ≡ staticSpans range v
+unfolding staticSpans plainSpans
+static-plain range v h = rw (lt-leb _ _ h, staticSpans)

@@ -1,0 +1,24 @@
+-- One symbol where the range is compressed, else the plain bytes.
+use Rattle.coder.specs.Interval.{largestRange}
+use Rattle.coder.specs.Values.{readStatic}
+use borrow.Author.Tests.{le-leb, lt-leb}
+use borrow.Author.Needs.{needs}
+use Rattle.coder.proofs.interval.Coder.static_value.Statement.{statement}
+use Rattle.coder.proofs.interval.Coder.static_value.Tie as tie
+
+symbol-value-requires : tie.Need-symbol-value-requires
+symbol-value-requires c κs = search needs
+
+returns : tie.Need-returns
+unfolding readStatic
+returns c = rw (le-leb (c .before .before .before .args .range) largestRange (search needs), readStatic) (c .symbol-value .ensures .0)
+
+plain-u32-requires : tie.Need-plain-u32-requires
+plain-u32-requires c κs = search needs
+
+returns-2 : tie.Need-returns-2
+unfolding readStatic
+returns-2 c = rw (lt-leb (c .before .before .before .args .range) largestRange (search needs), readStatic) (c .plain-u32 .ensures)
+
+pub static-value-spec : {M : Type 1} → statement M
+static-value-spec = tie.close (tie.spec symbol-value-requires returns plain-u32-requires returns-2)

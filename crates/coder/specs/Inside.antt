@@ -1,0 +1,113 @@
+-- What the private functions ask of one another.
+use Prim.Native.Nat.{ℕ, zero, suc, _+_, _*_, _/_, _^_, _≤_, _<_}
+use Rattle.coder.specs.Bytes.{bitAt, bytesOf, storeBits}
+use Rattle.coder.specs.Forms.{fits, limitsFormed, unless}
+use Rattle.coder.specs.Histogram.{Histogram, spanOf, sum, values}
+use Rattle.coder.specs.Interval.{Codable, Coder, Span, WellFormed, afterSymbol, code, largestRange}
+use Rattle.coder.specs.Stream.{Stream}
+use Rattle.coder.specs.Values.{Found, nextSymbol, readDynamic, readPlain}
+use Rattle.coder.specs.Writing.{End, Writer}
+use Rattle.coder.specs.declared.read.Read.{Read}
+use Rattle.coder.specs.declared.write.Written.{Written}
+use Rattle.fields.specs.Limits.{largestFile}
+use Rattle.fields.specs.Numbers.{badState, noRoom, outOfRange, overLimit, truncated}
+use lib.Dec.{eqb, leb, ltb}
+use lib.ListN.{getD, length, take}
+use mathlib.Core.Bool.{Bool, true, false, _&&_}
+use mathlib.Core.List.{List}
+use mathlib.Core.Path.{_≡_}
+use Rattle.coder.specs.declared.read.Read as read
+use Rattle.coder.specs.declared.write.Written as written
+
+-- n more bits can be counted
+pub record Room (n : ℕ) (s : Coder) : Type 0 where
+  pub room : s .settled + s .pending + n < 2 ^ 64
+
+-- the product of an interval's size and a frequency fits, and it can be divided
+pub record Divisible (range weight total : ℕ) : Type 0 where
+  pub narrow-range : range ≤ 0x10000
+  pub within : weight ≤ total
+  pub some : 1 ≤ total
+  pub small : total ≤ largestRange
+
+-- both limits are in the quarters next to the middle
+pub record Straddles (s : Coder) : Type 0 where
+  pub low-next : s .low / 0x4000 ≡ 1
+  pub high-next : s .high / 0x4000 ≡ 2
+
+-- the bytes are not too many, and hold the settled and the pending bits
+pub record Holds (bytes : List ℕ) (s : Coder) : Type 0 where
+  pub small : length bytes ≤ largestFile
+  pub within : s .settled + s .pending ≤ 8 * length bytes
+
+-- a reader's state between two symbols, whatever the bits are that it passed over
+pub record Reading (s : Coder) (x : Stream) : Type 0 where
+  pub limits : WellFormed s
+  pub from-low : s .low ≤ code s x
+  pub to-high : code s x ≤ s .high
+
+-- what a reader judges before it looks at the bits: the size of the data (9), then limits and counts (18)
+unfoldable pub countFault : Coder → ℕ → ℕ
+countFault s len =
+    unless (leb len largestFile) overLimit
+    (unless (limitsFormed s && (ltb (s .settled) (2 ^ 32) && ltb (s .pending) (2 ^ 32))) badState 0)
+
+-- what is left to judge of a write at no fault: the room
+abbrev pub roomNumber : List ℕ → Coder → ℕ
+roomNumber l next = unless (fits next (length l)) noRoom 0
+
+-- what is left to judge of a value that a reader at no fault found in so many bytes
+abbrev pub valueNumber : ℕ → Found → Bool → ℕ
+valueNumber len found good = unless (leb (found .state .settled) (8 * len)) truncated (unless good outOfRange 0)
+
+abbrev pub dynamicValueNumber : Histogram → List ℕ → Coder → ℕ
+dynamicValueNumber h d s =
+    let found = readDynamic h (bitAt d) s in
+    valueNumber (length d) found (ltb (found .value) values)
+
+-- whether an answer is done
+abbrev pub granted : Written → Bool
+granted (written.the-variants.Done w) = true
+granted (written.the-variants.Refused n w) = false
+
+abbrev pub got : Read → Bool
+got (read.the-variants.Got v s) = true
+got (read.the-variants.Refused n s) = false
+
+-- the symbol of a value: its own, or escape where its frequency is 0; and the plain bytes that follow it
+unfoldable pub leadOf : Histogram → ℕ → ℕ
+leadOf h v = elim (eqb (getD h (suc v) 0) 0) [ true ↦ 0 | false ↦ suc v ]
+
+abbrev pub bytesAfterLead : ℕ → ℕ
+bytesAfterLead zero = 4
+bytesAfterLead (suc k) = 0
+
+-- the value of a symbol whose part is known
+unfoldable pub symbolFound : Span → Stream → Coder → ℕ → Found
+symbolFound a x s zero = readPlain 4 x (afterSymbol s a)
+symbolFound a x s (suc v) = record { value = v; state = afterSymbol s a }
+
+-- the next symbol, the frequencies before it, and what the reader then meets
+pub record Next (h : Histogram) (x : Stream) (s : Coder) (index start : ℕ) : Type 0 where
+  pub same : index ≡ nextSymbol h x s
+  pub before-it : start ≡ sum (take index h)
+  pub inside : index < length h
+  pub codable : Codable (spanOf h index)
+  pub reading : Reading (afterSymbol s (spanOf h index)) x
+
+-- an end, by its number: the state after it and its bits
+unfoldable pub endAs : ℕ → List ℕ → Writer → Coder → List ℕ → End
+endAs zero l w next bits =
+    record {
+      number = 0;
+      used = bytesOf (next .settled);
+      writer = record { coder = next; compressed = w .compressed };
+      bytes = storeBits l (w .coder .settled) bits;
+    }
+endAs (suc n) l w next bits = record { number = suc n; used = 0; writer = w; bytes = l }
+
+-- a step of a reader: the value is below the range, and the next step can be made
+pub record Stepped (range : ℕ) (x : Stream) (s : Coder) (found : Found) (bits : ℕ) : Type 0 where
+  pub value-below : found .value < range
+  pub reading : Reading (found .state) x
+  pub near : found .state .settled + found .state .pending ≤ s .settled + s .pending + bits

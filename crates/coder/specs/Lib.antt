@@ -1,0 +1,12 @@
+pub mod Stream
+pub mod Bytes
+pub mod Interval
+pub mod Histogram
+pub mod Symbols
+pub mod Values
+pub mod Forms
+pub mod Ending
+pub mod Writing
+pub mod Reading
+pub mod Runs
+pub mod Inside

@@ -1,0 +1,308 @@
+// The coder's reader: it judges what it is lent and finds the number that the bits were written for.
+ghost use mathlib.Core.Path.{_≡_};
+ghost use mathlib.Core.Bool.{_&&_, true, false};
+ghost use Prim.Native.Nat.{_+_, _*_, _-_, _/_, _^_, _<_, _≤_};
+ghost use lib.ListN.{length};
+ghost use Rattle.coder.specs.Bytes.{bitAt};
+ghost use Rattle.coder.specs.Forms.{isRun, pendingInverted};
+ghost use Rattle.coder.specs.Inside.{Reading, Stepped, countFault, got, valueNumber};
+ghost use Rattle.coder.specs.Interval.{code, target, WellFormed};
+ghost use Rattle.coder.specs.Reading.{bytesIn, readFault, readGiven, taken, takePlain, takeStatic};
+ghost use Rattle.coder.specs.Values.{readPlain, readStatic, symbolValue};
+ghost use lib.Dec.{leb};
+use crate::bits::bit_at;
+use crate::bits::word_at;
+use crate::interval::Coder;
+use crate::reverse::reversed;
+use crate::write::static_span;
+use fields::limits::LARGEST_FILE;
+use fields::numbers::BAD_STATE;
+use fields::numbers::OUT_OF_RANGE;
+use fields::numbers::OVER_LIMIT;
+use fields::numbers::TRUNCATED;
+
+// The first count of bits that a reader's state may not have.
+const TOO_MANY: u64 = 0x100000000;
+
+// The number of a refusal comes with the state that was handed in.
+pub enum Read {
+    Got(u32, Coder),
+    Refused(u32, Coder),
+}
+
+// A value, and the state after it.
+pub struct Found {
+    pub value: u32,
+    pub state: Coder,
+}
+
+// What is wrong (9, 18, or 0 where nothing is), and the number that is found.
+pub(crate) struct Start {
+    pub fault: u32,
+    pub number: u32,
+}
+
+// Plain values by their width.
+pub enum Width {
+    U8,
+    U16,
+    U32,
+}
+
+// Whether count bits from a place are all equal to bit. Past the end every bit is 0, so the rest of a run is not walked.
+fn is_run(bytes: &[u8], from: u64, count: u64, bit: u32) -> bool
+    requires { ⌜ (from < 2 ^ 34) × (count < 2 ^ 34) ⌝ }
+    requires { ⌜ length (now bytes) ≤ 0x1000000 ⌝ }
+    ensures { λ r. ⌜ r ≡ isRun (bitAt (now (bytes .entry))) from count bit ⌝ }
+{
+    let bits = 8 * bytes.len() as u64;
+    let mut at = from;
+    let mut left = count;
+    while 0 < left {
+        if bit_at(bytes, at) != bit {
+            return false;
+        }
+        if bits <= at {
+            return true;
+        }
+        at += 1;
+        left -= 1;
+    }
+    true
+}
+
+impl Coder {
+    // The number that is compared with the limits: the next bit, and the fifteen after the pending ones.
+    fn code(self, bytes: &[u8]) -> u32
+        requires { ⌜ self .settled + self .pending < 2 ^ 33 + 256 ⌝ }
+        ensures { λ r. ⌜ r ≡ code self (bitAt (now (bytes .entry))) ⌝ }
+    {
+        bit_at(bytes, self.settled) * 0x8000 + word_at(bytes, self.settled + 1 + self.pending)
+    }
+
+    // The place among the frequencies that the code points to.
+    pub(crate) fn target(self, number: u32, total: u32) -> u32
+        requires { ⌜ WellFormed self × (self .low ≤ number) × (number ≤ self .high) ⌝ }
+        requires { ⌜ (1 ≤ total) × (total ≤ 0x3FFE) ⌝ }
+        ensures { λ r. ⌜ r ≡ (total * (number + 1 - self .low) - 1) / (self .high + 1 - self .low) ⌝ }
+    {
+        (total * (number + 1 - self.low) - 1) / (self.high + 1 - self.low)
+    }
+
+    // A value in a static range that is coded as one symbol.
+    fn symbol_value(self, bytes: &[u8], number: u32, range: u32) -> Found
+        requires { ⌜ Reading self (bitAt (now bytes)) × (number ≡ code self (bitAt (now bytes))) ⌝ }
+        requires { ⌜ (self .settled + self .pending < 2 ^ 33 + 256) × (1 ≤ range) × (range ≤ 0x3FFE) ⌝ }
+        ensures { λ r. ⌜ r ≡ symbolValue range (bitAt (now (bytes .entry))) self ⌝ }
+        ensures { λ r. ⌜ Stepped range (bitAt (now (bytes .entry))) self r 32 ⌝ }
+    {
+        let value = self.target(number, range);
+        Found {
+            value,
+            state: self.after(static_span(range, value)),
+        }
+    }
+
+    fn plain_u8(self, bytes: &[u8]) -> Found
+        requires { ⌜ Reading self (bitAt (now bytes)) ⌝ }
+        requires { ⌜ self .settled + self .pending < 2 ^ 33 + 256 ⌝ }
+        ensures { λ r. ⌜ r ≡ readPlain 1 (bitAt (now (bytes .entry))) self ⌝ }
+        ensures { λ r. ⌜ Stepped 0x100 (bitAt (now (bytes .entry))) self r 32 ⌝ }
+    {
+        let symbol = self.symbol_value(bytes, self.code(bytes), 256);
+        let state = symbol.state;
+        Found {
+            value: reversed(symbol.value as u8) as u32,
+            state,
+        }
+    }
+
+    fn plain_u16(self, bytes: &[u8]) -> Found
+        requires { ⌜ Reading self (bitAt (now bytes)) ⌝ }
+        requires { ⌜ self .settled + self .pending < 2 ^ 33 + 128 ⌝ }
+        ensures { λ r. ⌜ r ≡ readPlain 2 (bitAt (now (bytes .entry))) self ⌝ }
+        ensures { λ r. ⌜ Stepped 0x10000 (bitAt (now (bytes .entry))) self r 64 ⌝ }
+    {
+        let low = self.plain_u8(bytes);
+        let high = low.state.plain_u8(bytes);
+        let state = high.state;
+        Found {
+            value: low.value + 0x100 * high.value,
+            state,
+        }
+    }
+
+    pub(crate) fn plain_u32(self, bytes: &[u8]) -> Found
+        requires { ⌜ Reading self (bitAt (now bytes)) ⌝ }
+        requires { ⌜ self .settled + self .pending < 2 ^ 33 + 64 ⌝ }
+        ensures { λ r. ⌜ r ≡ readPlain 4 (bitAt (now (bytes .entry))) self ⌝ }
+    {
+        let low = self.plain_u16(bytes);
+        let high = low.state.plain_u16(bytes);
+        let state = high.state;
+        Found {
+            value: low.value + 0x10000 * high.value,
+            state,
+        }
+    }
+
+    // A value in a static range: one symbol, or a plain U32 where the range is too large.
+    fn static_value(self, bytes: &[u8], number: u32, range: u32) -> Found
+        requires { ⌜ Reading self (bitAt (now bytes)) × (number ≡ code self (bitAt (now bytes))) ⌝ }
+        requires { ⌜ (self .settled + self .pending < 2 ^ 33) × (1 ≤ range) ⌝ }
+        ensures { λ r. ⌜ r ≡ readStatic range (bitAt (now (bytes .entry))) self ⌝ }
+    {
+        if range <= Coder::LARGEST_RANGE {
+            return self.symbol_value(bytes, number, range);
+        }
+        self.plain_u32(bytes)
+    }
+
+    // Whether a number lies from low to high.
+    fn holds(self, number: u32) -> bool
+        ensures { λ r. ⌜ r ≡ (leb (self .low) number && leb number (self .high)) ⌝ }
+    {
+        if number < self.low {
+            return false;
+        }
+        number <= self.high
+    }
+
+    // Whether the bits after the next one, as many as are pending, are its inverse.
+    fn pending_inverted(self, bytes: &[u8]) -> bool
+        requires { ⌜ (self .settled < 2 ^ 32) × (self .pending < 2 ^ 32) × (length (now bytes) ≤ 0x1000000) ⌝ }
+        ensures { λ r. ⌜ r ≡ pendingInverted self (bitAt (now (bytes .entry))) ⌝ }
+    {
+        let next = bit_at(bytes, self.settled);
+        is_run(bytes, self.settled + 1, self.pending, 1 - next)
+    }
+
+    // What is wrong with data of len bytes (9), or with the limits and counts (18); 0 where nothing is.
+    fn count_fault(self, len: usize) -> u32
+        ensures { λ r. ⌜ r ≡ countFault self len ⌝ }
+    {
+        if len > LARGEST_FILE {
+            return OVER_LIMIT;
+        }
+        if !self.well_formed() {
+            return BAD_STATE;
+        }
+        if self.settled >= TOO_MANY {
+            return BAD_STATE;
+        }
+        if self.pending >= TOO_MANY {
+            return BAD_STATE;
+        }
+        0
+    }
+
+    // What every read begins with. The pending bits are judged only where asked.
+    pub(crate) fn start(self, bytes: &[u8], look: bool) -> Start
+        ensures { λ r. ⌜ r .fault ≡ readFault look (now (bytes .entry)) self ⌝ }
+        ensures { λ r. ⌜ (r .fault ≡ 0 → r .number ≡ code self (bitAt (now (bytes .entry)))) ⌝ }
+    {
+        let fault = self.count_fault(bytes.len());
+        if fault != 0 {
+            return Start { fault, number: 0 };
+        }
+        let number = self.code(bytes);
+        if !self.holds(number) {
+            return Start {
+                fault: BAD_STATE,
+                number,
+            };
+        }
+        if !look {
+            return Start { fault: 0, number };
+        }
+        if !self.pending_inverted(bytes) {
+            return Start {
+                fault: BAD_STATE,
+                number,
+            };
+        }
+        Start { fault: 0, number }
+    }
+
+    // The answer where a value was found in data of len bytes: it is refused where its settled bits pass their end.
+    pub(crate) fn accepted(self, len: usize, found: Found, good: bool) -> Read
+        requires { ⌜ len ≤ 0x1000000 ⌝ }
+        ensures { λ r. ⌜ readGiven r ≡ taken (valueNumber len found good) found self ⌝ }
+        ensures { λ r. ⌜ got r ≡ (leb (found .state .settled) (8 * len) && good) ⌝ }
+    {
+        let value = found.value;
+        let next = found.state;
+        if next.settled > 8 * len as u64 {
+            return Read::Refused(TRUNCATED, self);
+        }
+        if !good {
+            return Read::Refused(OUT_OF_RANGE, self);
+        }
+        Read::Got(value, next)
+    }
+
+    fn judged_static(self, bytes: &[u8], look: bool, range: u32) -> Read
+        ensures { λ r. ⌜ readGiven r ≡ takeStatic look range (now (bytes .entry)) self ⌝ }
+    {
+        let start = self.start(bytes, look);
+        if start.fault != 0 {
+            return Read::Refused(start.fault, self);
+        }
+        if range == 0 {
+            return Read::Refused(OUT_OF_RANGE, self);
+        }
+        let found = self.static_value(bytes, start.number, range);
+        self.accepted(bytes.len(), found, found.value < range)
+    }
+
+    fn plain_value(self, bytes: &[u8], width: Width) -> Found
+        requires { ⌜ Reading self (bitAt (now bytes)) ⌝ }
+        requires { ⌜ self .settled + self .pending < 2 ^ 33 ⌝ }
+        ensures { λ r. ⌜ r ≡ readPlain (bytesIn width) (bitAt (now (bytes .entry))) self ⌝ }
+    {
+        match width {
+            Width::U8 => self.plain_u8(bytes),
+            Width::U16 => self.plain_u16(bytes),
+            Width::U32 => self.plain_u32(bytes),
+        }
+    }
+
+    fn judged_plain(self, bytes: &[u8], look: bool, width: Width) -> Read
+        ensures { λ r. ⌜ readGiven r ≡ takePlain look (bytesIn width) (now (bytes .entry)) self ⌝ }
+    {
+        let start = self.start(bytes, look);
+        if start.fault != 0 {
+            return Read::Refused(start.fault, self);
+        }
+        let found = self.plain_value(bytes, width);
+        self.accepted(bytes.len(), found, true)
+    }
+
+    // Reads a plain value.
+    pub fn read_plain(self, bytes: &[u8], width: Width) -> Read
+        ensures { λ r. ⌜ readGiven r ≡ takePlain true (bytesIn width) (now (bytes .entry)) self ⌝ }
+    {
+        self.judged_plain(bytes, true, width)
+    }
+
+    // The same for a state that the reader made on the same data: its pending bits are not judged again.
+    pub fn take_plain(self, bytes: &[u8], width: Width) -> Read
+        ensures { λ r. ⌜ readGiven r ≡ takePlain false (bytesIn width) (now (bytes .entry)) self ⌝ }
+    {
+        self.judged_plain(bytes, false, width)
+    }
+
+    // Reads a value in a static range.
+    pub fn read_static(self, bytes: &[u8], range: u32) -> Read
+        ensures { λ r. ⌜ readGiven r ≡ takeStatic true range (now (bytes .entry)) self ⌝ }
+    {
+        self.judged_static(bytes, true, range)
+    }
+
+    // The same for a state that the reader made on the same data: its pending bits are not judged again.
+    pub fn take_static(self, bytes: &[u8], range: u32) -> Read
+        ensures { λ r. ⌜ readGiven r ≡ takeStatic false range (now (bytes .entry)) self ⌝ }
+    {
+        self.judged_static(bytes, false, range)
+    }
+}

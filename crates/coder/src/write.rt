@@ -1,0 +1,231 @@
+// The coder's writer: it judges what it is lent, settles the bits of a number and stores them, or changes nothing.
+ghost use mathlib.Core.Path.{_≡_};
+ghost use mathlib.Core.Bool.{_||_};
+ghost use mathlib.Core.List.{_∷_};
+ghost use Prim.Native.Nat.{_+_, _*_, _<_, _≤_};
+ghost use lib.ListN.{length};
+ghost use Rattle.coder.specs.Bytes.{putBits};
+ghost use Rattle.coder.specs.Forms.{fits, limitsFormed};
+ghost use Rattle.coder.specs.Inside.{Holds, Room, granted, roomNumber};
+ghost use Rattle.coder.specs.Interval.{Codable, WellFormed};
+ghost use Rattle.coder.specs.Symbols.{afterSymbols, byteSpan, plainSpans, staticSpan, symbolsBits};
+ghost use Rattle.coder.specs.Writing.{freshWriter, write, writeFault, writePlain, writeStatic, writtenGiven};
+use crate::bits::pad;
+use crate::interval::Coder;
+use crate::interval::Span;
+use crate::reverse::reversed;
+use fields::limits::LARGEST_FILE;
+use fields::numbers::BAD_STATE;
+use fields::numbers::NO_ROOM;
+use fields::numbers::OUT_OF_RANGE;
+use fields::numbers::OVER_LIMIT;
+
+// A writer's state, and whether a compressed value was written.
+pub struct Writer {
+    pub coder: Coder,
+    pub compressed: bool,
+}
+
+// The number of a refusal comes with the state that was handed in.
+pub enum Written {
+    Done(Writer),
+    Refused(u32, Writer),
+}
+
+fn either(a: bool, b: bool) -> bool
+    ensures { λ r. ⌜ r ≡ (a || b) ⌝ }
+{
+    if a {
+        return true;
+    }
+    b
+}
+
+// A value in a static range.
+pub(crate) fn static_span(range: u32, value: u32) -> Span
+    ensures { λ r. ⌜ r ≡ staticSpan range value ⌝ }
+{
+    Span {
+        start: value,
+        weight: 1,
+        total: range,
+    }
+}
+
+// The low byte of a plain value.
+pub(crate) fn byte_span(value: u32) -> Span
+    ensures { λ r. ⌜ r ≡ byteSpan value ⌝ }
+{
+    static_span(256, reversed((value % 256) as u8) as u32)
+}
+
+impl Coder {
+    pub(crate) fn well_formed(self) -> bool
+        ensures { λ r. ⌜ r ≡ limitsFormed self ⌝ }
+    {
+        if self.low >= 0x8000 {
+            return false;
+        }
+        if self.high < 0x8000 {
+            return false;
+        }
+        if self.high > Coder::HIGH_LIMIT {
+            return false;
+        }
+        self.low / 0x4000 + 2 <= self.high / 0x4000
+    }
+
+    // The state after the count low bytes of a plain value.
+    fn after_plain(self, value: u32, count: u32) -> Coder
+        requires { ⌜ WellFormed self ⌝ }
+        requires { ⌜ Room (32 * count) self ⌝ }
+        ensures { λ r. ⌜ r ≡ afterSymbols self (plainSpans count value) ⌝ }
+    {
+        let mut s = self;
+        let mut rest = value;
+        let mut left = count;
+        while 0 < left {
+            s = s.after(byte_span(rest));
+            rest = rest / 256;
+            left -= 1;
+        }
+        s
+    }
+
+    // Puts the bits that the count low bytes of a plain value settle.
+    fn put_plain(self, value: u32, count: u32, buf: &mut [u8])
+        requires { ⌜ WellFormed self ⌝ }
+        requires { ⌜ Holds (now buf) (afterSymbols self (plainSpans count value)) ⌝ }
+        ensures { λ _. ⌜ now (buf .exit) ≡ putBits (now (buf .entry)) (self .settled) (symbolsBits self (plainSpans count value)) ⌝ }
+    {
+        let mut s = self;
+        let mut rest = value;
+        let mut left = count;
+        while 0 < left {
+            let span = byte_span(rest);
+            s.put_symbol(span, &mut *buf);
+            s = s.after(span);
+            rest = rest / 256;
+            left -= 1;
+        }
+    }
+
+    // Whether a buffer of len bytes holds the settled and the pending bits.
+    pub(crate) fn has_room(self, len: usize) -> bool
+        requires { ⌜ len ≤ 0x1000000 ⌝ }
+        ensures { λ r. ⌜ r ≡ fits self len ⌝ }
+    {
+        let bits = 8 * len as u64;
+        if self.settled > bits {
+            return false;
+        }
+        if self.pending > bits - self.settled {
+            return false;
+        }
+        true
+    }
+
+    // What is wrong with a buffer of len bytes (9), or with the state (18); 0 where nothing is.
+    pub(crate) fn write_fault(self, len: usize) -> u32
+        ensures { λ r. ⌜ r ≡ writeFault self len ⌝ }
+    {
+        if len > LARGEST_FILE {
+            return OVER_LIMIT;
+        }
+        if !self.well_formed() {
+            return BAD_STATE;
+        }
+        if !self.has_room(len) {
+            return BAD_STATE;
+        }
+        0
+    }
+}
+
+impl Writer {
+    pub fn fresh() -> Writer
+        ensures { λ r. ⌜ r ≡ freshWriter ⌝ }
+    {
+        Writer {
+            coder: Coder::fresh(),
+            compressed: false,
+        }
+    }
+
+    // Writes a symbol, and after it the count low bytes of a plain value, where there is room for them.
+    pub(crate) fn write_led(
+        self,
+        buf: &mut [u8],
+        compresses: bool,
+        span: Span,
+        rest: u32,
+        count: u32,
+    ) -> Written
+        requires { ⌜ WellFormed (self .coder) ⌝ }
+        requires { ⌜ Codable span × (count ≤ 4) ⌝ }
+        requires { ⌜ Holds (now buf) (self .coder) ⌝ }
+        ensures { λ r. ⌜ writtenGiven r (now (buf .exit)) ≡ write (roomNumber (now (buf .entry)) (afterSymbols (self .coder) (span ∷ plainSpans count rest))) (now (buf .entry)) self compresses (span ∷ plainSpans count rest) ⌝ }
+        ensures { λ r. ⌜ granted r ≡ fits (afterSymbols (self .coder) (span ∷ plainSpans count rest)) (length (now (buf .entry))) ⌝ }
+    {
+        let start = self.coder;
+        let second = start.after(span);
+        let next = second.after_plain(rest, count);
+        if !next.has_room(buf.len()) {
+            return Written::Refused(NO_ROOM, self);
+        }
+        pad(&mut *buf, start.settled);
+        start.put_symbol(span, &mut *buf);
+        second.put_plain(rest, count, &mut *buf);
+        Written::Done(Writer {
+            coder: next,
+            compressed: either(self.compressed, compresses),
+        })
+    }
+
+    // Writes a value in a static range: one symbol, or a plain U32 where the range is too large.
+    pub fn write_static(self, buf: &mut [u8], range: u32, value: u32) -> Written
+        ensures { λ r. ⌜ writtenGiven r (now (buf .exit)) ≡ writeStatic range (now (buf .entry)) self value ⌝ }
+    {
+        let fault = self.coder.write_fault(buf.len());
+        if fault != 0 {
+            return Written::Refused(fault, self);
+        }
+        if range <= value {
+            return Written::Refused(OUT_OF_RANGE, self);
+        }
+        if range <= Coder::LARGEST_RANGE {
+            return self.write_led(buf, true, static_span(range, value), 0, 0);
+        }
+        self.write_led(buf, true, byte_span(value), value / 256, 3)
+    }
+
+    // Writes a plain value of more + 1 bytes.
+    fn write_plain(self, buf: &mut [u8], value: u32, more: u32) -> Written
+        requires { ⌜ more ≤ 3 ⌝ }
+        ensures { λ r. ⌜ writtenGiven r (now (buf .exit)) ≡ writePlain (more + 1) (now (buf .entry)) self value ⌝ }
+    {
+        let fault = self.coder.write_fault(buf.len());
+        if fault != 0 {
+            return Written::Refused(fault, self);
+        }
+        self.write_led(buf, false, byte_span(value), value / 256, more)
+    }
+
+    pub fn write_u8(self, buf: &mut [u8], value: u8) -> Written
+        ensures { λ r. ⌜ writtenGiven r (now (buf .exit)) ≡ writePlain 1 (now (buf .entry)) self value ⌝ }
+    {
+        self.write_plain(buf, value as u32, 0)
+    }
+
+    pub fn write_u16(self, buf: &mut [u8], value: u16) -> Written
+        ensures { λ r. ⌜ writtenGiven r (now (buf .exit)) ≡ writePlain 2 (now (buf .entry)) self value ⌝ }
+    {
+        self.write_plain(buf, value as u32, 1)
+    }
+
+    pub fn write_u32(self, buf: &mut [u8], value: u32) -> Written
+        ensures { λ r. ⌜ writtenGiven r (now (buf .exit)) ≡ writePlain 4 (now (buf .entry)) self value ⌝ }
+    {
+        self.write_plain(buf, value, 3)
+    }
+}
