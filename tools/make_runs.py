@@ -1,4 +1,4 @@
-"""Writes the stored files of the block programs' runs, or compares them (--check).
+"""Writes the stored files of the programs' runs, or compares them (--check).
 
 To be run from the repository's root. A run is a folder under crates/ with its input
 files in data/, their names in args, and the expected output in stdout.
@@ -9,7 +9,8 @@ from pathlib import Path
 
 sys.dont_write_bytecode = True
 
-from u3d import block_files, blocks  # noqa: E402 (after the setting above)
+from u3d import (  # noqa: E402 (after the setting above)
+    block_files, blocks, coder_calls, coder_files, coder_refusals)
 
 CRATES = Path("crates")
 
@@ -82,6 +83,23 @@ def cut_line(data, length):
     return b"%d\t%d\t%d\t%d\n" % (length, number, place, len(rows))
 
 
+def coder_runs():
+    """Calls of the bit coder, as scripts tell them."""
+    cases = [(case.name + ".calls", case.calls)
+             for case in coder_files.cases() + coder_refusals.cases()]
+    inputs = [(name, coder_calls.script(calls)) for name, calls in cases]
+    stdout = b"".join(call_report(name, calls) for name, calls in cases)
+    return run_files("coder_runs", inputs, stdout)
+
+
+def call_report(name, calls):
+    """The coder must agree with the answers worked out by hand, and read what it wrote."""
+    try:
+        return coder_calls.output(name, calls)
+    except coder_calls.Differs as differs:
+        sys.exit("%s: %s" % (name, differs))
+
+
 def write(files):
     for path, data in files.items():
         path.parent.mkdir(parents=True, exist_ok=True)
@@ -104,7 +122,7 @@ def differences(files):
 def main(arguments):
     if arguments not in ([], ["--check"]):
         sys.exit("usage: make_runs.py [--check]")
-    files = {**list_blocks(), **walk_runs(), **cut_runs()}
+    files = {**list_blocks(), **walk_runs(), **cut_runs(), **coder_runs()}
     if not arguments:
         write(files)
         return 0
