@@ -14,6 +14,10 @@ Histogram = List ℕ
 abbrev pub values : ℕ
 values = 256
 
+-- the escape symbol, and one for each value
+abbrev pub symbols : ℕ
+symbols = 257
+
 -- 10.4.9: the total at which frequencies are halved
 abbrev pub largestTotal : ℕ
 largestTotal = 0x1FFF

@@ -1,4 +1,5 @@
 // Bits in bytes: they fill each byte from its lowest.
+ghost use Rattle.fields.specs.Limits.{largestFile};
 ghost use mathlib.Core.Path.{_≡_};
 ghost use Prim.Native.Nat.{_+_, _*_, _/_, _%_, _^_, _<_, _≤_};
 ghost use lib.ListN.{length, getD, replicate};
@@ -71,7 +72,7 @@ pub(crate) fn put_bit(buf: &mut [u8], at: u64, bit: u32)
 
 // Puts count equal bits from a place on.
 pub(crate) fn put_run(buf: &mut [u8], from: u64, bit: u32, count: u64)
-    requires { ⌜ (length (now buf) ≤ 0x1000000) × (from + count ≤ 8 * length (now buf)) × (bit ≤ 1) ⌝ }
+    requires { ⌜ (length (now buf) ≤ largestFile) × (from + count ≤ 8 * length (now buf)) × (bit ≤ 1) ⌝ }
     ensures { λ _. ⌜ now (buf .exit) ≡ putBits (now (buf .entry)) from (replicate count bit) ⌝ }
 {
     let mut at = from;

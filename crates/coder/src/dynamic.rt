@@ -1,16 +1,18 @@
 // Numbers in a dynamic context, whose frequencies the caller lends.
+ghost use Rattle.fields.specs.Limits.{largestFile};
 ghost use mathlib.Core.Path.{_≡_};
 ghost use mathlib.Core.Bool.{true, false};
 ghost use Prim.Native.Nat.{_+_, _^_, _<_, _≤_};
 ghost use lib.ListN.{length};
 ghost use Rattle.coder.specs.Bytes.{bitAt};
-ghost use Rattle.coder.specs.Histogram.{WellFormedHistogram, sum};
+ghost use Rattle.coder.specs.Histogram.{WellFormedHistogram, sum, symbols, values};
 ghost use Rattle.coder.specs.Inside.{Holds, Next, Reading, bytesAfterLead, dynamicValueNumber, leadOf, roomNumber, symbolFound};
 ghost use Rattle.coder.specs.Interval.{Codable, WellFormed, afterSymbol, code};
 ghost use Rattle.coder.specs.Reading.{readGiven, takeDynamic, taken, takenHistogram};
 ghost use Rattle.coder.specs.Symbols.{afterSymbols, dynamicAfter, dynamicSpans};
 ghost use Rattle.coder.specs.Values.{readAfter, readDynamic};
 ghost use Rattle.coder.specs.Writing.{kept, write, writeDynamic, writtenGiven, writtenHistogram};
+use crate::histogram::SYMBOLS;
 use crate::histogram::Symbol;
 use crate::histogram::VALUES;
 use crate::histogram::histogram_formed;
@@ -30,7 +32,7 @@ use fields::numbers::OUT_OF_RANGE;
 
 // The symbol of a value: its own, or escape where its frequency is 0.
 fn symbol_of(frequencies: &[u32], value: u32) -> usize
-    requires { ⌜ (length (now frequencies) ≡ 257) × (value < 256) ⌝ }
+    requires { ⌜ (length (now frequencies) ≡ symbols) × (value < values) ⌝ }
     ensures { λ r. ⌜ r ≡ leadOf (now (frequencies .entry)) value ⌝ }
 {
     let symbol = value as usize + 1;
@@ -61,7 +63,7 @@ impl Writer {
         value: u32,
     ) -> Written
         requires { ⌜ WellFormed (self .coder) × Holds (now buf) (self .coder) ⌝ }
-        requires { ⌜ WellFormedHistogram (now frequencies) × (length (now frequencies) ≡ 257) × (total ≡ sum (now frequencies)) × (value < 256) ⌝ }
+        requires { ⌜ WellFormedHistogram (now frequencies) × (length (now frequencies) ≡ symbols) × (total ≡ sum (now frequencies)) × (value < values) ⌝ }
         ensures { λ r. ⌜ writtenGiven r (now (buf .exit)) ≡ write (roomNumber (now (buf .entry)) (afterSymbols (self .coder) (dynamicSpans (now (frequencies .entry)) value))) (now (buf .entry)) self true (dynamicSpans (now (frequencies .entry)) value) ⌝ }
         ensures { λ r. ⌜ now (frequencies .exit) ≡ kept (roomNumber (now (buf .entry)) (afterSymbols (self .coder) (dynamicSpans (now (frequencies .entry)) value))) (dynamicAfter (now (frequencies .entry)) value) (now (frequencies .entry)) ⌝ }
     {
@@ -78,7 +80,12 @@ impl Writer {
     }
 
     // Writes a value in a dynamic context.
-    pub fn write_dynamic(self, buf: &mut [u8], frequencies: &mut [u32; 257], value: u32) -> Written
+    pub fn write_dynamic(
+        self,
+        buf: &mut [u8],
+        frequencies: &mut [u32; SYMBOLS],
+        value: u32,
+    ) -> Written
         ensures { λ r. ⌜ writtenGiven r (now (buf .exit)) ≡ writeDynamic (now (frequencies .entry)) (now (buf .entry)) self value ⌝ }
         ensures { λ r. ⌜ now (frequencies .exit) ≡ writtenHistogram (now (frequencies .entry)) (now (buf .entry)) self value ⌝ }
     {
@@ -101,7 +108,7 @@ impl Coder {
     // The symbol that the number points to.
     fn next_symbol(self, bytes: &[u8], number: u32, frequencies: &[u32], total: u64) -> Symbol
         requires { ⌜ Reading self (bitAt (now bytes)) × (number ≡ code self (bitAt (now bytes))) ⌝ }
-        requires { ⌜ WellFormedHistogram (now frequencies) × (length (now frequencies) ≡ 257) × (total ≡ sum (now frequencies)) ⌝ }
+        requires { ⌜ WellFormedHistogram (now frequencies) × (length (now frequencies) ≡ symbols) × (total ≡ sum (now frequencies)) ⌝ }
         ensures { λ r. ⌜ Next (now (frequencies .entry)) (bitAt (now (bytes .entry))) self (r .index) (r .start) ⌝ }
     {
         symbol_at(frequencies, self.target(number, total as u32) as u64)
@@ -109,7 +116,7 @@ impl Coder {
 
     // The value of a symbol whose part is known.
     fn dynamic_value(self, bytes: &[u8], symbol: usize, span: Span) -> Found
-        requires { ⌜ WellFormed self × Codable span × (symbol < 257) ⌝ }
+        requires { ⌜ WellFormed self × Codable span × (symbol < symbols) ⌝ }
         requires { ⌜ self .settled + self .pending < 2 ^ 33 ⌝ }
         requires { ⌜ Reading (afterSymbol self span) (bitAt (now bytes)) ⌝ }
         ensures { λ r. ⌜ r ≡ symbolFound span (bitAt (now (bytes .entry))) self symbol ⌝ }
@@ -127,8 +134,8 @@ impl Coder {
     // The value where state and histogram are well formed; its frequency rises where it is accepted.
     fn read_formed(self, bytes: &[u8], number: u32, frequencies: &mut [u32], total: u64) -> Read
         requires { ⌜ Reading self (bitAt (now bytes)) × (number ≡ code self (bitAt (now bytes))) ⌝ }
-        requires { ⌜ (self .settled + self .pending < 2 ^ 33) × (length (now bytes) ≤ 0x1000000) ⌝ }
-        requires { ⌜ WellFormedHistogram (now frequencies) × (length (now frequencies) ≡ 257) × (total ≡ sum (now frequencies)) ⌝ }
+        requires { ⌜ (self .settled + self .pending < 2 ^ 33) × (length (now bytes) ≤ largestFile) ⌝ }
+        requires { ⌜ WellFormedHistogram (now frequencies) × (length (now frequencies) ≡ symbols) × (total ≡ sum (now frequencies)) ⌝ }
         ensures { λ r. ⌜ readGiven r ≡ taken (dynamicValueNumber (now (frequencies .entry)) (now (bytes .entry)) self) (readDynamic (now (frequencies .entry)) (bitAt (now (bytes .entry))) self) self ⌝ }
         ensures { λ r. ⌜ now (frequencies .exit) ≡ kept (dynamicValueNumber (now (frequencies .entry)) (now (bytes .entry)) self) (readAfter (now (frequencies .entry)) (bitAt (now (bytes .entry))) self) (now (frequencies .entry)) ⌝ }
     {
@@ -145,7 +152,7 @@ impl Coder {
         }
     }
 
-    fn judged_dynamic(self, bytes: &[u8], look: bool, frequencies: &mut [u32; 257]) -> Read
+    fn judged_dynamic(self, bytes: &[u8], look: bool, frequencies: &mut [u32; SYMBOLS]) -> Read
         ensures { λ r. ⌜ readGiven r ≡ takeDynamic look (now (frequencies .entry)) (now (bytes .entry)) self ⌝ }
         ensures { λ r. ⌜ now (frequencies .exit) ≡ takenHistogram look (now (frequencies .entry)) (now (bytes .entry)) self ⌝ }
     {
@@ -161,7 +168,7 @@ impl Coder {
     }
 
     // Reads a value in a dynamic context.
-    pub fn read_dynamic(self, bytes: &[u8], frequencies: &mut [u32; 257]) -> Read
+    pub fn read_dynamic(self, bytes: &[u8], frequencies: &mut [u32; SYMBOLS]) -> Read
         ensures { λ r. ⌜ readGiven r ≡ takeDynamic true (now (frequencies .entry)) (now (bytes .entry)) self ⌝ }
         ensures { λ r. ⌜ now (frequencies .exit) ≡ takenHistogram true (now (frequencies .entry)) (now (bytes .entry)) self ⌝ }
     {
@@ -169,7 +176,7 @@ impl Coder {
     }
 
     // The same for a state that the reader made on the same data: its pending bits are not judged again.
-    pub fn take_dynamic(self, bytes: &[u8], frequencies: &mut [u32; 257]) -> Read
+    pub fn take_dynamic(self, bytes: &[u8], frequencies: &mut [u32; SYMBOLS]) -> Read
         ensures { λ r. ⌜ readGiven r ≡ takeDynamic false (now (frequencies .entry)) (now (bytes .entry)) self ⌝ }
         ensures { λ r. ⌜ now (frequencies .exit) ≡ takenHistogram false (now (frequencies .entry)) (now (bytes .entry)) self ⌝ }
     {

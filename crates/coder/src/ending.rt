@@ -1,4 +1,5 @@
 // The end of a coded run (10.4.10).
+ghost use Rattle.fields.specs.Limits.{largestFile};
 ghost use mathlib.Core.Path.{_≡_};
 ghost use Prim.Native.Nat.{_+_, _*_, _<_, _≤_};
 ghost use lib.ListN.{length};
@@ -25,7 +26,7 @@ pub enum Ended {
 
 // Puts the fifteen low bits of a number from a place on, the highest first.
 fn put_word(buf: &mut [u8], from: u64, value: u32)
-    requires { ⌜ (length (now buf) ≤ 0x1000000) × (from + 15 ≤ 8 * length (now buf)) ⌝ }
+    requires { ⌜ (length (now buf) ≤ largestFile) × (from + 15 ≤ 8 * length (now buf)) ⌝ }
     ensures { λ _. ⌜ now (buf .exit) ≡ putBits (now (buf .entry)) from (bitsOf 15 value) ⌝ }
 {
     let mut at = from;
@@ -39,7 +40,7 @@ fn put_word(buf: &mut [u8], from: u64, value: u32)
 
 // The bytes that so many bits take.
 fn bytes_of(bits: u64) -> usize
-    requires { ⌜ bits ≤ 8 * 0x1000000 ⌝ }
+    requires { ⌜ bits ≤ 8 * largestFile ⌝ }
     ensures { λ r. ⌜ r ≡ bytesOf bits ⌝ }
 {
     ((bits + 7) / 8) as usize
@@ -48,7 +49,7 @@ fn bytes_of(bits: u64) -> usize
 impl Coder {
     // The state after low itself was written.
     fn low_ended(self) -> Coder
-        requires { ⌜ self .settled + self .pending ≤ 8 * 0x1000000 ⌝ }
+        requires { ⌜ self .settled + self .pending ≤ 8 * largestFile ⌝ }
         ensures { λ r. ⌜ r ≡ lowState self ⌝ }
     {
         Coder {

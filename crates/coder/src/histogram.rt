@@ -3,7 +3,7 @@ ghost use mathlib.Core.Path.{_≡_};
 ghost use mathlib.Core.List.{map};
 ghost use Prim.Native.Nat.{_+_, _<_, _≤_};
 ghost use lib.ListN.{length, take};
-ghost use Rattle.coder.specs.Histogram.{freshHistogram, sum, symbolAt, halve, thinned, raised, spanOf, histogramFormed, WellFormedHistogram};
+ghost use Rattle.coder.specs.Histogram.{freshHistogram, sum, symbolAt, halve, thinned, raised, spanOf, histogramFormed, WellFormedHistogram, symbols, values};
 ghost use Rattle.coder.specs.Values.{symbolAfter};
 use crate::interval::Coder;
 use crate::interval::Span;
@@ -15,10 +15,10 @@ pub const SYMBOLS: usize = 257;
 pub const VALUES: u32 = 256;
 
 // A fresh context: escape has frequency 1, all else 0.
-pub fn fresh_histogram() -> [u32; 257]
+pub fn fresh_histogram() -> [u32; SYMBOLS]
     ensures { λ r. ⌜ r ≡ freshHistogram ⌝ }
 {
-    let mut h = [0u32; 257];
+    let mut h = [0u32; SYMBOLS];
     h[0] = 1;
     h
 }
@@ -31,7 +31,7 @@ fn wide(frequency: u32) -> u64
 
 // The sum of the first count frequencies.
 fn sum_before(h: &[u32], count: usize) -> u64
-    requires { ⌜ (count ≤ 257) × (length (now h) ≡ 257) ⌝ }
+    requires { ⌜ (count ≤ symbols) × (length (now h) ≡ symbols) ⌝ }
     ensures { λ r. ⌜ r ≡ sum (take count (now (h .entry))) ⌝ }
 {
     let mut total: u64 = 0;
@@ -45,7 +45,7 @@ fn sum_before(h: &[u32], count: usize) -> u64
 
 // The sum of all frequencies.
 pub(crate) fn total_of(h: &[u32]) -> u64
-    requires { ⌜ length (now h) ≡ 257 ⌝ }
+    requires { ⌜ length (now h) ≡ symbols ⌝ }
     ensures { λ r. ⌜ r ≡ sum (now (h .entry)) ⌝ }
 {
     sum_before(h, SYMBOLS)
@@ -53,7 +53,7 @@ pub(crate) fn total_of(h: &[u32]) -> u64
 
 // Whether escape has some frequency and the total is not too large.
 pub(crate) fn histogram_formed(h: &[u32], total: u64) -> bool
-    requires { ⌜ (length (now h) ≡ 257) × (total ≡ sum (now h)) ⌝ }
+    requires { ⌜ (length (now h) ≡ symbols) × (total ≡ sum (now h)) ⌝ }
     ensures { λ r. ⌜ r ≡ histogramFormed (now (h .entry)) ⌝ }
 {
     if h[0] < 1 {
@@ -64,7 +64,7 @@ pub(crate) fn histogram_formed(h: &[u32], total: u64) -> bool
 
 // A symbol's part of the total.
 pub(crate) fn span_of(h: &[u32], total: u64, symbol: usize) -> Span
-    requires { ⌜ (length (now h) ≡ 257) × (symbol < 257) × (total ≡ sum (now h)) ⌝ }
+    requires { ⌜ (length (now h) ≡ symbols) × (symbol < symbols) × (total ≡ sum (now h)) ⌝ }
     requires { ⌜ WellFormedHistogram (now h) ⌝ }
     ensures { λ r. ⌜ r ≡ spanOf (now (h .entry)) symbol ⌝ }
 {
@@ -86,7 +86,7 @@ pub(crate) struct Symbol {
 
 // The symbol whose part of the total holds a place.
 pub(crate) fn symbol_at(h: &[u32], place: u64) -> Symbol
-    requires { ⌜ length (now h) ≡ 257 ⌝ }
+    requires { ⌜ length (now h) ≡ symbols ⌝ }
     ensures { λ r. ⌜ (r .index ≡ symbolAt (now (h .entry)) place) × (r .start ≡ sum (take (r .index) (now (h .entry)))) ⌝ }
 {
     let mut rest = place;
@@ -110,7 +110,7 @@ pub(crate) fn symbol_at(h: &[u32], place: u64) -> Symbol
 
 // The part of the total of a symbol that was found there.
 pub(crate) fn span_at(h: &[u32], total: u64, symbol: Symbol) -> Span
-    requires { ⌜ (length (now h) ≡ 257) × (symbol .index < 257) × (total ≡ sum (now h)) ⌝ }
+    requires { ⌜ (length (now h) ≡ symbols) × (symbol .index < symbols) × (total ≡ sum (now h)) ⌝ }
     requires { ⌜ WellFormedHistogram (now h) × (symbol .start ≡ sum (take (symbol .index) (now h))) ⌝ }
     ensures { λ r. ⌜ r ≡ spanOf (now (h .entry)) (symbol .index) ⌝ }
 {
@@ -124,7 +124,7 @@ pub(crate) fn span_at(h: &[u32], total: u64, symbol: Symbol) -> Span
 
 // Halves every frequency, rounding down.
 fn halve_all(h: &mut [u32])
-    requires { ⌜ length (now h) ≡ 257 ⌝ }
+    requires { ⌜ length (now h) ≡ symbols ⌝ }
     ensures { λ _. ⌜ now (h .exit) ≡ map halve (now (h .entry)) ⌝ }
 {
     let mut i = 0;
@@ -136,7 +136,7 @@ fn halve_all(h: &mut [u32])
 
 // A full histogram is halved, and its escape frequency raised.
 fn thin(h: &mut [u32], total: u64)
-    requires { ⌜ (length (now h) ≡ 257) × (total ≡ sum (now h)) ⌝ }
+    requires { ⌜ (length (now h) ≡ symbols) × (total ≡ sum (now h)) ⌝ }
     requires { ⌜ WellFormedHistogram (now h) ⌝ }
     ensures { λ _. ⌜ now (h .exit) ≡ thinned (now (h .entry)) ⌝ }
 {
@@ -148,7 +148,7 @@ fn thin(h: &mut [u32], total: u64)
 
 // A symbol's frequency rises.
 fn raise(h: &mut [u32], total: u64, symbol: usize)
-    requires { ⌜ (length (now h) ≡ 257) × (symbol < 257) × (total ≡ sum (now h)) ⌝ }
+    requires { ⌜ (length (now h) ≡ symbols) × (symbol < symbols) × (total ≡ sum (now h)) ⌝ }
     requires { ⌜ WellFormedHistogram (now h) ⌝ }
     ensures { λ _. ⌜ now (h .exit) ≡ raised (now (h .entry)) symbol ⌝ }
 {
@@ -158,8 +158,8 @@ fn raise(h: &mut [u32], total: u64, symbol: usize)
 
 // The frequencies rise after a symbol that was read or written: after an escape, also that of the value which followed.
 pub(crate) fn raise_after(h: &mut [u32], total: u64, symbol: usize, value: u32)
-    requires { ⌜ (length (now h) ≡ 257) × (symbol < 257) × (total ≡ sum (now h)) ⌝ }
-    requires { ⌜ WellFormedHistogram (now h) × (value < 256) ⌝ }
+    requires { ⌜ (length (now h) ≡ symbols) × (symbol < symbols) × (total ≡ sum (now h)) ⌝ }
+    requires { ⌜ WellFormedHistogram (now h) × (value < values) ⌝ }
     ensures { λ _. ⌜ now (h .exit) ≡ symbolAfter (now (h .entry)) symbol value ⌝ }
 {
     raise(h, total, symbol);

@@ -1,4 +1,5 @@
 // The coder's interval: how a symbol narrows it, which bits that settles and which it leaves pending (10.4.4).
+ghost use Rattle.fields.specs.Limits.{largestFile};
 ghost use mathlib.Core.Path.{_≡_};
 ghost use Prim.Native.Nat.{_+_, _*_, _/_, _<_, _≤_};
 ghost use lib.ListN.{length};
@@ -140,7 +141,7 @@ impl Coder {
 
     // Puts the top bit and the pending ones inverted.
     pub(crate) fn put_top(self, buf: &mut [u8])
-        requires { ⌜ length (now buf) ≤ 0x1000000 ⌝ }
+        requires { ⌜ length (now buf) ≤ largestFile ⌝ }
         requires { ⌜ (self .settled + 1 + self .pending ≤ 8 * length (now buf)) × (self .low ≤ 0xFFFF) ⌝ }
         ensures { λ _. ⌜ now (buf .exit) ≡ putBits (now (buf .entry)) (self .settled) (settledBits self) ⌝ }
     {

@@ -1,4 +1,5 @@
 // The coder's reader: it judges what it is lent and finds the number that the bits were written for.
+ghost use Rattle.fields.specs.Limits.{largestFile};
 ghost use mathlib.Core.Path.{_≡_};
 ghost use mathlib.Core.Bool.{_&&_, true, false};
 ghost use Prim.Native.Nat.{_+_, _*_, _-_, _/_, _^_, _<_, _≤_};
@@ -6,7 +7,7 @@ ghost use lib.ListN.{length};
 ghost use Rattle.coder.specs.Bytes.{bitAt};
 ghost use Rattle.coder.specs.Forms.{isRun, pendingInverted};
 ghost use Rattle.coder.specs.Inside.{Reading, Stepped, countFault, got, valueNumber};
-ghost use Rattle.coder.specs.Interval.{code, target, WellFormed};
+ghost use Rattle.coder.specs.Interval.{code, target, WellFormed, largestRange};
 ghost use Rattle.coder.specs.Reading.{bytesIn, readFault, readGiven, taken, takePlain, takeStatic};
 ghost use Rattle.coder.specs.Values.{readPlain, readStatic, symbolValue};
 ghost use lib.Dec.{leb};
@@ -52,7 +53,7 @@ pub enum Width {
 // Whether count bits from a place are all equal to bit. Past the end every bit is 0, so the rest of a run is not walked.
 fn is_run(bytes: &[u8], from: u64, count: u64, bit: u32) -> bool
     requires { ⌜ (from < 2 ^ 34) × (count < 2 ^ 34) ⌝ }
-    requires { ⌜ length (now bytes) ≤ 0x1000000 ⌝ }
+    requires { ⌜ length (now bytes) ≤ largestFile ⌝ }
     ensures { λ r. ⌜ r ≡ isRun (bitAt (now (bytes .entry))) from count bit ⌝ }
 {
     let bits = 8 * bytes.len() as u64;
@@ -83,7 +84,7 @@ impl Coder {
     // The place among the frequencies that the code points to.
     pub(crate) fn target(self, number: u32, total: u32) -> u32
         requires { ⌜ WellFormed self × (self .low ≤ number) × (number ≤ self .high) ⌝ }
-        requires { ⌜ (1 ≤ total) × (total ≤ 0x3FFE) ⌝ }
+        requires { ⌜ (1 ≤ total) × (total ≤ largestRange) ⌝ }
         ensures { λ r. ⌜ r ≡ (total * (number + 1 - self .low) - 1) / (self .high + 1 - self .low) ⌝ }
     {
         (total * (number + 1 - self.low) - 1) / (self.high + 1 - self.low)
@@ -92,7 +93,7 @@ impl Coder {
     // A value in a static range that is coded as one symbol.
     fn symbol_value(self, bytes: &[u8], number: u32, range: u32) -> Found
         requires { ⌜ Reading self (bitAt (now bytes)) × (number ≡ code self (bitAt (now bytes))) ⌝ }
-        requires { ⌜ (self .settled + self .pending < 2 ^ 33 + 256) × (1 ≤ range) × (range ≤ 0x3FFE) ⌝ }
+        requires { ⌜ (self .settled + self .pending < 2 ^ 33 + 256) × (1 ≤ range) × (range ≤ largestRange) ⌝ }
         ensures { λ r. ⌜ r ≡ symbolValue range (bitAt (now (bytes .entry))) self ⌝ }
         ensures { λ r. ⌜ Stepped range (bitAt (now (bytes .entry))) self r 32 ⌝ }
     {
@@ -170,7 +171,7 @@ impl Coder {
 
     // Whether the bits after the next one, as many as are pending, are its inverse.
     fn pending_inverted(self, bytes: &[u8]) -> bool
-        requires { ⌜ (self .settled < 2 ^ 32) × (self .pending < 2 ^ 32) × (length (now bytes) ≤ 0x1000000) ⌝ }
+        requires { ⌜ (self .settled < 2 ^ 32) × (self .pending < 2 ^ 32) × (length (now bytes) ≤ largestFile) ⌝ }
         ensures { λ r. ⌜ r ≡ pendingInverted self (bitAt (now (bytes .entry))) ⌝ }
     {
         let next = bit_at(bytes, self.settled);
@@ -226,7 +227,7 @@ impl Coder {
 
     // The answer where a value was found in data of len bytes: it is refused where its settled bits pass their end.
     pub(crate) fn accepted(self, len: usize, found: Found, good: bool) -> Read
-        requires { ⌜ len ≤ 0x1000000 ⌝ }
+        requires { ⌜ len ≤ largestFile ⌝ }
         ensures { λ r. ⌜ readGiven r ≡ taken (valueNumber len found good) found self ⌝ }
         ensures { λ r. ⌜ got r ≡ (leb (found .state .settled) (8 * len) && good) ⌝ }
     {

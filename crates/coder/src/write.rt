@@ -1,4 +1,5 @@
 // The coder's writer: it judges what it is lent, settles the bits of a number and stores them, or changes nothing.
+ghost use Rattle.fields.specs.Limits.{largestFile};
 ghost use mathlib.Core.Path.{_≡_};
 ghost use mathlib.Core.Bool.{_||_};
 ghost use mathlib.Core.List.{_∷_};
@@ -112,7 +113,7 @@ impl Coder {
 
     // Whether a buffer of len bytes holds the settled and the pending bits.
     pub(crate) fn has_room(self, len: usize) -> bool
-        requires { ⌜ len ≤ 0x1000000 ⌝ }
+        requires { ⌜ len ≤ largestFile ⌝ }
         ensures { λ r. ⌜ r ≡ fits self len ⌝ }
     {
         let bits = 8 * len as u64;
