@@ -8,7 +8,7 @@ use Rattle.coder.proofs.Streams.{bit-binary}
 use Rattle.coder.proofs.Weights.{span-codable, weight-le}
 use Rattle.coder.specs.Bytes.{bitAt}
 use Rattle.coder.specs.Histogram.{Histogram, WellFormedHistogram, raised, spanOf, sum, symbolAt, values}
-use Rattle.coder.specs.Inside.{Next, Reading, bytesAfterLead, dynamicValueNumber, got, granted, leadOf, roomNumber, symbolFound, valueNumber}
+use Rattle.coder.specs.Inside.{Next, Reading, bytesAfterLead, contextNumber, foundAs, got, granted, leadOf, roomNumber}
 use Rattle.coder.specs.Interval.{Codable, Coder, Span, afterSymbol, target}
 use Rattle.coder.specs.Forms.{fits, unless}
 use Rattle.coder.specs.Reading.{Taken, readGiven, taken}
@@ -127,24 +127,17 @@ next-holds h d s place index start w r at found sums =
       reading = reading-next s (spanOf h index) (bitAt d) (bit-binary d) r codable (part .from-start) (part .to-end);
     }
 
-pub symbol-escape : (a : Span) (x : Stream) (s : Coder) (k : ℕ) → k ≡ 0 → readPlain 4 x (afterSymbol s a) ≡ symbolFound a x s k
-unfolding symbolFound
-symbol-escape a x s k e = rw e
+-- the value that the reader finds follows an escape, or is the symbol
+pub read-escaped : (h : Histogram) (x : Stream) (s : Coder) (k : ℕ) (found : Found) → k ≡ nextSymbol h x s → k ≡ 0
+    → found ≡ readPlain 4 x (afterSymbol s (spanOf h k)) → found ≡ readDynamic h x s
+unfolding readDynamic readSymbol
+read-escaped h x s k found next e f = f ∙ rw (← next, e)
 
-pub symbol-value : (a : Span) (x : Stream) (s : Coder) (k : ℕ) → (k ≡ 0 → ⊥)
-    → record { value = k - 1; state = afterSymbol s a } ≡ symbolFound a x s k
-unfolding symbolFound
-symbol-value a x s zero some = absurd (some refl)
-symbol-value a x s (suc k) some = let less : suc k - 1 ≡ k = omega arith in rw less
-
--- the value that is found so is the reader's
-pub symbol-read : (h : Histogram) (x : Stream) (s : Coder) (k : ℕ) → k ≡ nextSymbol h x s → symbolFound (spanOf h k) x s k ≡ readDynamic h x s
-unfolding readDynamic
-symbol-read h x s k e = go k ∙ ap (readSymbol h x s) e
-  where
-    go : (j : ℕ) → symbolFound (spanOf h j) x s j ≡ readSymbol h x s j
-    go zero = unfold symbolFound readSymbol in refl
-    go (suc j) = unfold symbolFound readSymbol in refl
+pub read-value : (h : Histogram) (x : Stream) (s : Coder) (k : ℕ) → k ≡ nextSymbol h x s → (k ≡ 0 → ⊥)
+    → foundAs (k - 1) (afterSymbol s (spanOf h k)) ≡ readDynamic h x s
+unfolding readDynamic readSymbol
+read-value h x s zero next some = absurd (some refl)
+read-value h x s (suc k) next some = let less : suc k - 1 ≡ k = omega arith in rw (← next, less)
 
 -- what is left to judge of the value, by what the answer is
 value-kept : (a b : Bool) (later h : Histogram) → (a && b) ≡ true → later ≡ kept (unless a truncated (unless b outOfRange 0)) later h
@@ -163,25 +156,37 @@ taken-value true true found s e = refl
 taken-value true false found s e = absurd (false≢true e)
 taken-value false b found s e = absurd (false≢true e)
 
-module _ (h : Histogram) (d : List ℕ) (s : Coder) (found : Found) (same : found ≡ readDynamic h (bitAt d) s) (r : Read)
-    (answer : readGiven r ≡ taken (valueNumber (length d) found (ltb (found .value) values)) found s)
-    (good : got r ≡ (leb (found .state .settled) (8 * length d) && ltb (found .value) values)) where
-  pub dynamic-answer : (q : Read) → r ≡ q → readGiven q ≡ taken (dynamicValueNumber h d s) (readDynamic h (bitAt d) s) s
-  dynamic-answer q e = ap readGiven (sym e) ∙ rw (← same) answer
+module _ (len : ℕ) (s : Coder) (found : Found) (r : Read) (answer : readGiven r ≡ taken (contextNumber len found) found s)
+    (good : got r ≡ (leb (found .state .settled) (8 * len) && ltb (found .value) values)) where
+  pub counted-answer : (q : Read) → r ≡ q → readGiven q ≡ taken (contextNumber len found) found s
+  counted-answer q e = ap readGiven (sym e) ∙ answer
 
-  pub dynamic-left : (n : ℕ) (t : Coder) → r ≡ read.the-variants.Refused n t → h ≡ kept (dynamicValueNumber h d s) (readAfter h (bitAt d) s) h
-  dynamic-left n t e = rw (← same) (value-left (leb (found .state .settled) (8 * length d)) (ltb (found .value) values) (readAfter h (bitAt d) s) h (sym good ∙ ap got e))
+  pub counted-left : (n : ℕ) (t : Coder) (later h : Histogram) → r ≡ read.the-variants.Refused n t → h ≡ kept (contextNumber len found) later h
+  counted-left n t later h e =
+      value-left (leb (found .state .settled) (8 * len)) (ltb (found .value) values) later h (sym good ∙ ap got e)
 
-  pub dynamic-got : (v : ℕ) (t : Coder) → r ≡ read.the-variants.Got v t → (v ≡ found .value) × (v < values)
-  dynamic-got v t e =
-      let both : (leb (found .state .settled) (8 * length d) && ltb (found .value) values) ≡ true = sym good ∙ ap got e in
-      let small : found .value < values = ltb-true _ _ (and-both (leb (found .state .settled) (8 * length d)) _ both .1) in
-      let value : v ≡ found .value = ap (λ (q : Read). (readGiven q) .value) (sym e) ∙ ap (λ (q : Taken). q .value) answer ∙ taken-value (leb (found .state .settled) (8 * length d)) (ltb (found .value) values) found s both in
-      (value, rw value small)
+  pub counted-got : (v : ℕ) (t : Coder) → r ≡ read.the-variants.Got v t → (v ≡ found .value) × (v < values)
+  counted-got v t e =
+      let test : Bool = leb (found .state .settled) (8 * len) in
+      let both : (test && ltb (found .value) values) ≡ true = sym good ∙ ap got e in
+      let value : v ≡ found .value
+      = ap (λ (q : Read). (readGiven q) .value) (sym e) ∙ ap (λ (q : Taken). q .value) answer
+      ∙ taken-value test (ltb (found .value) values) found s both in
+      (value, rw value (ltb-true _ _ (and-both test _ both .1)))
 
-  pub dynamic-kept : (v : ℕ) (t : Coder) (k : ℕ) (g : Histogram) → r ≡ read.the-variants.Got v t → k ≡ nextSymbol h (bitAt d) s
-      → g ≡ symbolAfter h k v → g ≡ kept (dynamicValueNumber h d s) (readAfter h (bitAt d) s) h
+  pub counted-kept : (v : ℕ) (t : Coder) (h : Histogram) (k : ℕ) (g : Histogram) → r ≡ read.the-variants.Got v t → g ≡ symbolAfter h k v
+      → g ≡ kept (contextNumber len found) (symbolAfter h k (found .value)) h
+  counted-kept v t h k g e raised =
+      raised ∙ rw (counted-got v t e .0)
+      (value-kept (leb (found .state .settled) (8 * len)) (ltb (found .value) values) (symbolAfter h k (found .value)) h (sym good ∙ ap got e))
+
+-- what is found so, in the words of the definition
+module _ (h : Histogram) (d : List ℕ) (s : Coder) (k : ℕ) (found : Found) (next : k ≡ nextSymbol h (bitAt d) s) (same : found ≡ readDynamic h (bitAt d) s) where
+  pub dynamic-answer : (r : Taken) → r ≡ taken (contextNumber (length d) found) found s
+      → r ≡ taken (contextNumber (length d) (readDynamic h (bitAt d) s)) (readDynamic h (bitAt d) s) s
+  dynamic-answer r e = rw (← same) e
+
+  pub dynamic-kept : (g : Histogram) → g ≡ kept (contextNumber (length d) found) (symbolAfter h k (found .value)) h
+      → g ≡ kept (contextNumber (length d) (readDynamic h (bitAt d) s)) (readAfter h (bitAt d) s) h
   unfolding readAfter
-  dynamic-kept v t k g e next raised =
-      let value : v ≡ (readDynamic h (bitAt d) s) .value = dynamic-got v t e .0 ∙ ap (λ (f : Found). f .value) same in
-      raised ∙ rw (next, value, ← same) (value-kept (leb (found .state .settled) (8 * length d)) (ltb (found .value) values) (symbolAfter h (nextSymbol h (bitAt d) s) (found .value)) h (sym good ∙ ap got e))
+  dynamic-kept g e = rw (← same, ← next) e

@@ -17,10 +17,10 @@ use mathlib.Core.Path.{_≡_, refl}
 use native.Mathlib.Omega.{arith}
 
 -- what is given, and what then is
-data Row : Type 1 where
+pub data Row : Type 1 where
   gives : {A : Type 0} → A → A → Row
 
-abbrev AllHold : List Row → Type 0
+abbrev pub AllHold : List Row → Type 0
 AllHold [] = Unit {0}
 AllHold (gives a b ∷ rows) = (a ≡ b) × AllHold rows
 
@@ -35,7 +35,7 @@ abbrev zeroes : Number
 zeroes = record { context = dynamic 0; value = 0 }
 
 -- 01, "Examples on each side", the rows of the coder
-abbrev rows : List Row
+abbrev pub rows : List Row
 rows =
     gives (map (reversed 8) (0x01 ∷ 0x43 ∷ [])) (0x80 ∷ 0xC2 ∷ [])
     ∷ gives (writeStatic 3 (bytes 1) freshWriter 1) (done (record { low = 0x2AAA; high = 0xD553; pending = 1; settled = 0 }) (bytes 1))
@@ -53,7 +53,7 @@ rows =
     ∷ gives ((writeStatic 3 (bytes 1) freshWriter 3) .number) 10
     ∷ []
 
-examples : AllHold rows
+pub examples : AllHold rows
 unfolding afterSymbol afterSymbols callWrite dynamicAfter dynamicNumber dynamicSpans histogramFormed limitsFormed narrow padded plainSpans
     postpones putBit putBits raised reversed settleTops settledBits spanOf staticSpans storeBits sum symbolBits symbolsBits thinned topBits
     write writeCalls writeDynamic writeFault writeNumber writeStatic writerFormed writtenHistogram

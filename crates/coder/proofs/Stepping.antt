@@ -3,11 +3,12 @@ use Prim.Native.Nat.{ℕ, zero, suc, _+_, _*_, _^_, _≤_, _<_}
 use Rattle.coder.proofs.Forward.{reading-static, target-below}
 use Rattle.coder.proofs.Limits.{after-grown}
 use Rattle.coder.proofs.Reversal.{reversed-small}
-use Rattle.coder.specs.Inside.{Reading, Stepped}
+use Rattle.coder.specs.Inside.{Reading, Stepped, foundAs}
 use Rattle.coder.specs.Interval.{Coder, afterSymbol, largestRange, target}
 use Rattle.coder.specs.Stream.{Binary, Stream}
 use Rattle.coder.specs.Symbols.{reversed, staticSpan}
-use Rattle.coder.specs.Values.{Found, readPlain, symbolValue}
+use Rattle.coder.specs.Values.{Found, readPlain, readStatic, symbolValue}
+use borrow.Author.Tests.{le-leb, lt-leb}
 use mathlib.Core.Path.{_≡_, ap, refl, _∙_}
 use native.Mathlib.Nat.{mul-assoc, mul-comm, pow-suc, pow-zero, suc-add, zero-add}
 use native.Mathlib.Omega.{arith}
@@ -49,3 +50,13 @@ plain-join (suc m) n x s a b e d =
     = ap (λ (k : ℕ). k * b .value) (pow-suc 256 m) ∙ ap (λ (k : ℕ). k * b .value) (mul-comm (256 ^ m) 256) ∙ mul-assoc 256 (256 ^ m) (b .value) in
     rw (suc-add m n, e)
     (found-path (omega (arith, power)) refl ∙ ap (λ (f : Found). record { value = reversed 8 q + 256 * f .value; state = f .state }) ih)
+
+-- a value in a static range, as the code finds it: one symbol, or a plain U32
+pub range-one : (range : ℕ) (x : Stream) (s : Coder) (value : ℕ) (next : Coder) → range ≤ largestRange → value ≡ target s x range
+    → next ≡ afterSymbol s (staticSpan range value) → foundAs value next ≡ readStatic range x s
+unfolding readStatic
+range-one range x s value next small e f = rw (le-leb _ _ small, readStatic, f, e)
+
+pub range-plain : (range : ℕ) (x : Stream) (s : Coder) (found : Found) → largestRange < range → found ≡ readPlain 4 x s → found ≡ readStatic range x s
+unfolding readStatic
+range-plain range x s found large e = rw (lt-leb _ _ large, readStatic) e

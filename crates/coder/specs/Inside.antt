@@ -1,12 +1,13 @@
 -- What the private functions ask of one another.
 use Prim.Native.Nat.{ℕ, zero, suc, _+_, _*_, _/_, _^_, _≤_, _<_}
-use Rattle.coder.specs.Bytes.{bitAt, bytesOf, storeBits}
+use Rattle.coder.specs.Bytes.{bytesOf, storeBits}
 use Rattle.coder.specs.Forms.{fits, limitsFormed, unless}
 use Rattle.coder.specs.Histogram.{Histogram, spanOf, sum, values}
 use Rattle.coder.specs.Interval.{Codable, Coder, Span, WellFormed, afterSymbol, code, largestRange}
 use Rattle.coder.specs.Stream.{Stream}
-use Rattle.coder.specs.Values.{Found, nextSymbol, readDynamic, readPlain}
-use Rattle.coder.specs.Writing.{End, Writer}
+use Rattle.coder.specs.Symbols.{afterSymbols}
+use Rattle.coder.specs.Values.{Found, nextSymbol}
+use Rattle.coder.specs.Writing.{End, Write, Writer, write}
 use Rattle.coder.specs.declared.read.Read.{Read}
 use Rattle.coder.specs.declared.write.Written.{Written}
 use Rattle.fields.specs.Limits.{largestFile}
@@ -56,14 +57,19 @@ countFault s len =
 abbrev pub roomNumber : List ℕ → Coder → ℕ
 roomNumber l next = unless (fits next (length l)) noRoom 0
 
+abbrev pub writeRoom : List ℕ → Writer → Bool → List Span → Write
+writeRoom l w compresses spans = write (roomNumber l (afterSymbols (w .coder) spans)) l w compresses spans
+
 -- what is left to judge of a value that a reader at no fault found in so many bytes
 abbrev pub valueNumber : ℕ → Found → Bool → ℕ
 valueNumber len found good = unless (leb (found .state .settled) (8 * len)) truncated (unless good outOfRange 0)
 
-abbrev pub dynamicValueNumber : Histogram → List ℕ → Coder → ℕ
-dynamicValueNumber h d s =
-    let found = readDynamic h (bitAt d) s in
-    valueNumber (length d) found (ltb (found .value) values)
+-- the same in a dynamic context
+abbrev pub contextNumber : ℕ → Found → ℕ
+contextNumber len found = valueNumber len found (ltb (found .value) values)
+
+abbrev pub foundAs : ℕ → Coder → Found
+foundAs v s = record { value = v; state = s }
 
 -- whether an answer is done
 abbrev pub granted : Written → Bool
@@ -81,11 +87,6 @@ leadOf h v = elim (eqb (getD h (suc v) 0) 0) [ true ↦ 0 | false ↦ suc v ]
 abbrev pub bytesAfterLead : ℕ → ℕ
 bytesAfterLead zero = 4
 bytesAfterLead (suc k) = 0
-
--- the value of a symbol whose part is known
-unfoldable pub symbolFound : Span → Stream → Coder → ℕ → Found
-symbolFound a x s zero = readPlain 4 x (afterSymbol s a)
-symbolFound a x s (suc v) = record { value = v; state = afterSymbol s a }
 
 -- the next symbol, the frequencies before it, and what the reader then meets
 pub record Next (h : Histogram) (x : Stream) (s : Coder) (index start : ℕ) : Type 0 where
@@ -105,6 +106,9 @@ endAs zero l w next bits =
       bytes = storeBits l (w .coder .settled) bits;
     }
 endAs (suc n) l w next bits = record { number = suc n; used = 0; writer = w; bytes = l }
+
+abbrev pub endRoom : List ℕ → Writer → Coder → List ℕ → End
+endRoom l w next bits = endAs (roomNumber l next) l w next bits
 
 -- a step of a reader: the value is below the range, and the next step can be made
 pub record Stepped (range : ℕ) (x : Stream) (s : Coder) (found : Found) (bits : ℕ) : Type 0 where

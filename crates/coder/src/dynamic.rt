@@ -6,11 +6,11 @@ ghost use Prim.Native.Nat.{_+_, _^_, _<_, _≤_};
 ghost use lib.ListN.{length};
 ghost use Rattle.coder.specs.Bytes.{bitAt};
 ghost use Rattle.coder.specs.Histogram.{WellFormedHistogram, sum, symbols, values};
-ghost use Rattle.coder.specs.Inside.{Holds, Next, Reading, bytesAfterLead, dynamicValueNumber, leadOf, roomNumber, symbolFound};
-ghost use Rattle.coder.specs.Interval.{Codable, WellFormed, afterSymbol, code};
+ghost use Rattle.coder.specs.Inside.{Holds, Next, Reading, bytesAfterLead, contextNumber, foundAs, leadOf, roomNumber, writeRoom};
+ghost use Rattle.coder.specs.Interval.{WellFormed, code};
 ghost use Rattle.coder.specs.Reading.{readGiven, takeDynamic, taken, takenHistogram};
 ghost use Rattle.coder.specs.Symbols.{afterSymbols, dynamicAfter, dynamicSpans};
-ghost use Rattle.coder.specs.Values.{readAfter, readDynamic};
+ghost use Rattle.coder.specs.Values.{readAfter, readDynamic, symbolAfter};
 ghost use Rattle.coder.specs.Writing.{kept, write, writeDynamic, writtenGiven, writtenHistogram};
 use crate::histogram::SYMBOLS;
 use crate::histogram::Symbol;
@@ -64,7 +64,7 @@ impl Writer {
     ) -> Written
         requires { ⌜ WellFormed (self .coder) × Holds (now buf) (self .coder) ⌝ }
         requires { ⌜ WellFormedHistogram (now frequencies) × (length (now frequencies) ≡ symbols) × (total ≡ sum (now frequencies)) × (value < values) ⌝ }
-        ensures { λ r. ⌜ writtenGiven r (now (buf .exit)) ≡ write (roomNumber (now (buf .entry)) (afterSymbols (self .coder) (dynamicSpans (now (frequencies .entry)) value))) (now (buf .entry)) self true (dynamicSpans (now (frequencies .entry)) value) ⌝ }
+        ensures { λ r. ⌜ writtenGiven r (now (buf .exit)) ≡ writeRoom (now (buf .entry)) self true (dynamicSpans (now (frequencies .entry)) value) ⌝ }
         ensures { λ r. ⌜ now (frequencies .exit) ≡ kept (roomNumber (now (buf .entry)) (afterSymbols (self .coder) (dynamicSpans (now (frequencies .entry)) value))) (dynamicAfter (now (frequencies .entry)) value) (now (frequencies .entry)) ⌝ }
     {
         let symbol = symbol_of(&*frequencies, value);
@@ -114,42 +114,54 @@ impl Coder {
         symbol_at(frequencies, self.target(number, total as u32) as u64)
     }
 
-    // The value of a symbol whose part is known.
-    fn dynamic_value(self, bytes: &[u8], symbol: usize, span: Span) -> Found
-        requires { ⌜ WellFormed self × Codable span × (symbol < symbols) ⌝ }
-        requires { ⌜ self .settled + self .pending < 2 ^ 33 ⌝ }
-        requires { ⌜ Reading (afterSymbol self span) (bitAt (now bytes)) ⌝ }
-        ensures { λ r. ⌜ r ≡ symbolFound span (bitAt (now (bytes .entry))) self symbol ⌝ }
+    // The answer where a value was found; after one that is accepted the frequencies rise.
+    fn counted(
+        self,
+        len: usize,
+        value: u32,
+        next: Coder,
+        frequencies: &mut [u32],
+        total: u64,
+        symbol: usize,
+    ) -> Read
+        requires { ⌜ (len ≤ largestFile) × (symbol < symbols) ⌝ }
+        requires { ⌜ WellFormedHistogram (now frequencies) × (length (now frequencies) ≡ symbols) × (total ≡ sum (now frequencies)) ⌝ }
+        ensures { λ r. ⌜ readGiven r ≡ taken (contextNumber len (foundAs value next)) (foundAs value next) self ⌝ }
+        ensures { λ r. ⌜ now (frequencies .exit) ≡ kept (contextNumber len (foundAs value next)) (symbolAfter (now (frequencies .entry)) symbol value) (now (frequencies .entry)) ⌝ }
     {
-        let state = self.after(span);
-        if symbol == 0 {
-            return state.plain_u32(bytes);
-        }
-        Found {
-            value: symbol as u32 - 1,
-            state,
+        match self.accepted(len, value, next, value < VALUES) {
+            Read::Refused(number, state) => Read::Refused(number, state),
+            Read::Got(value, state) => {
+                raise_after(frequencies, total, symbol, value);
+                Read::Got(value, state)
+            }
         }
     }
 
-    // The value where state and histogram are well formed; its frequency rises where it is accepted.
+    // The value where state and histogram are well formed: it follows an escape, or is the symbol.
     fn read_formed(self, bytes: &[u8], number: u32, frequencies: &mut [u32], total: u64) -> Read
         requires { ⌜ Reading self (bitAt (now bytes)) × (number ≡ code self (bitAt (now bytes))) ⌝ }
         requires { ⌜ (self .settled + self .pending < 2 ^ 33) × (length (now bytes) ≤ largestFile) ⌝ }
         requires { ⌜ WellFormedHistogram (now frequencies) × (length (now frequencies) ≡ symbols) × (total ≡ sum (now frequencies)) ⌝ }
-        ensures { λ r. ⌜ readGiven r ≡ taken (dynamicValueNumber (now (frequencies .entry)) (now (bytes .entry)) self) (readDynamic (now (frequencies .entry)) (bitAt (now (bytes .entry))) self) self ⌝ }
-        ensures { λ r. ⌜ now (frequencies .exit) ≡ kept (dynamicValueNumber (now (frequencies .entry)) (now (bytes .entry)) self) (readAfter (now (frequencies .entry)) (bitAt (now (bytes .entry))) self) (now (frequencies .entry)) ⌝ }
+        ensures { λ r. ⌜ readGiven r ≡ taken (contextNumber (length (now (bytes .entry))) (readDynamic (now (frequencies .entry)) (bitAt (now (bytes .entry))) self)) (readDynamic (now (frequencies .entry)) (bitAt (now (bytes .entry))) self) self ⌝ }
+        ensures { λ r. ⌜ now (frequencies .exit) ≡ kept (contextNumber (length (now (bytes .entry))) (readDynamic (now (frequencies .entry)) (bitAt (now (bytes .entry))) self)) (readAfter (now (frequencies .entry)) (bitAt (now (bytes .entry))) self) (now (frequencies .entry)) ⌝ }
     {
         let symbol = self.next_symbol(bytes, number, &*frequencies, total);
         let index = symbol.index;
-        let span = span_at(&*frequencies, total, symbol);
-        let found = self.dynamic_value(bytes, index, span);
-        match self.accepted(bytes.len(), found, found.value < VALUES) {
-            Read::Refused(number, state) => Read::Refused(number, state),
-            Read::Got(value, state) => {
-                raise_after(frequencies, total, index, value);
-                Read::Got(value, state)
-            }
+        let state = self.after(span_at(&*frequencies, total, symbol));
+        if index != 0 {
+            return self.counted(
+                bytes.len(),
+                index as u32 - 1,
+                state,
+                frequencies,
+                total,
+                index,
+            );
         }
+        let found = state.plain_u32(bytes);
+        let next = found.state;
+        self.counted(bytes.len(), found.value, next, frequencies, total, index)
     }
 
     fn judged_dynamic(self, bytes: &[u8], look: bool, frequencies: &mut [u32; SYMBOLS]) -> Read

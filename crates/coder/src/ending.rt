@@ -5,7 +5,7 @@ ghost use Prim.Native.Nat.{_+_, _*_, _<_, _≤_};
 ghost use lib.ListN.{length};
 ghost use Rattle.coder.specs.Bytes.{bytesOf, putBits};
 ghost use Rattle.coder.specs.Ending.{bitsOf, lowBits, lowState};
-ghost use Rattle.coder.specs.Inside.{Holds, endAs, roomNumber};
+ghost use Rattle.coder.specs.Inside.{Holds, endRoom};
 ghost use Rattle.coder.specs.Interval.{WellFormed};
 ghost use Rattle.coder.specs.Symbols.{afterSymbols, plainSpans, symbolsBits};
 ghost use Rattle.coder.specs.Writing.{end, endedGiven};
@@ -65,7 +65,7 @@ impl Writer {
     // Ends with low itself: its top bit, the pending ones inverted, its other fifteen.
     fn end_low(self, buf: &mut [u8]) -> Ended
         requires { ⌜ WellFormed (self .coder) × Holds (now buf) (self .coder) ⌝ }
-        ensures { λ r. ⌜ endedGiven r (now (buf .exit)) ≡ endAs (roomNumber (now (buf .entry)) (lowState (self .coder))) (now (buf .entry)) self (lowState (self .coder)) (lowBits (self .coder)) ⌝ }
+        ensures { λ r. ⌜ endedGiven r (now (buf .exit)) ≡ endRoom (now (buf .entry)) self (lowState (self .coder)) (lowBits (self .coder)) ⌝ }
     {
         let start = self.coder;
         let next = start.low_ended();
@@ -87,7 +87,7 @@ impl Writer {
     // Ends with a plain U32 of 0.
     fn end_zero(self, buf: &mut [u8]) -> Ended
         requires { ⌜ WellFormed (self .coder) × Holds (now buf) (self .coder) ⌝ }
-        ensures { λ r. ⌜ endedGiven r (now (buf .exit)) ≡ endAs (roomNumber (now (buf .entry)) (afterSymbols (self .coder) (plainSpans 4 0))) (now (buf .entry)) self (afterSymbols (self .coder) (plainSpans 4 0)) (symbolsBits (self .coder) (plainSpans 4 0)) ⌝ }
+        ensures { λ r. ⌜ endedGiven r (now (buf .exit)) ≡ endRoom (now (buf .entry)) self (afterSymbols (self .coder) (plainSpans 4 0)) (symbolsBits (self .coder) (plainSpans 4 0)) ⌝ }
     {
         match self.write_led(buf, false, byte_span(0), 0, 3) {
             Written::Refused(number, writer) => Ended::Refused(number, writer),

@@ -6,10 +6,10 @@ ghost use Prim.Native.Nat.{_+_, _*_, _-_, _/_, _^_, _<_, _≤_};
 ghost use lib.ListN.{length};
 ghost use Rattle.coder.specs.Bytes.{bitAt};
 ghost use Rattle.coder.specs.Forms.{isRun, pendingInverted};
-ghost use Rattle.coder.specs.Inside.{Reading, Stepped, countFault, got, valueNumber};
+ghost use Rattle.coder.specs.Inside.{Reading, Stepped, countFault, foundAs, got, valueNumber};
 ghost use Rattle.coder.specs.Interval.{code, target, WellFormed, largestRange};
 ghost use Rattle.coder.specs.Reading.{bytesIn, readFault, readGiven, taken, takePlain, takeStatic};
-ghost use Rattle.coder.specs.Values.{readPlain, readStatic, symbolValue};
+ghost use Rattle.coder.specs.Values.{readPlain, symbolValue};
 ghost use lib.Dec.{leb};
 use crate::bits::bit_at;
 use crate::bits::word_at;
@@ -147,18 +147,6 @@ impl Coder {
         }
     }
 
-    // A value in a static range: one symbol, or a plain U32 where the range is too large.
-    fn static_value(self, bytes: &[u8], number: u32, range: u32) -> Found
-        requires { ⌜ Reading self (bitAt (now bytes)) × (number ≡ code self (bitAt (now bytes))) ⌝ }
-        requires { ⌜ (self .settled + self .pending < 2 ^ 33) × (1 ≤ range) ⌝ }
-        ensures { λ r. ⌜ r ≡ readStatic range (bitAt (now (bytes .entry))) self ⌝ }
-    {
-        if range <= Coder::LARGEST_RANGE {
-            return self.symbol_value(bytes, number, range);
-        }
-        self.plain_u32(bytes)
-    }
-
     // Whether a number lies from low to high.
     fn holds(self, number: u32) -> bool
         ensures { λ r. ⌜ r ≡ (leb (self .low) number && leb number (self .high)) ⌝ }
@@ -225,14 +213,13 @@ impl Coder {
         Start { fault: 0, number }
     }
 
-    // The answer where a value was found in data of len bytes: it is refused where its settled bits pass their end.
-    pub(crate) fn accepted(self, len: usize, found: Found, good: bool) -> Read
+    // The answer where a value was found in data of len bytes: it is refused where its settled bits pass their end. Value and state come
+    // apart, since a struct of both would be copied once more at every number.
+    pub(crate) fn accepted(self, len: usize, value: u32, next: Coder, good: bool) -> Read
         requires { ⌜ len ≤ largestFile ⌝ }
-        ensures { λ r. ⌜ readGiven r ≡ taken (valueNumber len found good) found self ⌝ }
-        ensures { λ r. ⌜ got r ≡ (leb (found .state .settled) (8 * len) && good) ⌝ }
+        ensures { λ r. ⌜ readGiven r ≡ taken (valueNumber len (foundAs value next) good) (foundAs value next) self ⌝ }
+        ensures { λ r. ⌜ got r ≡ (leb (next .settled) (8 * len) && good) ⌝ }
     {
-        let value = found.value;
-        let next = found.state;
         if next.settled > 8 * len as u64 {
             return Read::Refused(TRUNCATED, self);
         }
@@ -252,8 +239,14 @@ impl Coder {
         if range == 0 {
             return Read::Refused(OUT_OF_RANGE, self);
         }
-        let found = self.static_value(bytes, start.number, range);
-        self.accepted(bytes.len(), found, found.value < range)
+        if range <= Coder::LARGEST_RANGE {
+            let value = self.target(start.number, range);
+            let next = self.after(static_span(range, value));
+            return self.accepted(bytes.len(), value, next, value < range);
+        }
+        let found = self.plain_u32(bytes);
+        let next = found.state;
+        self.accepted(bytes.len(), found.value, next, found.value < range)
     }
 
     fn plain_value(self, bytes: &[u8], width: Width) -> Found
@@ -276,7 +269,8 @@ impl Coder {
             return Read::Refused(start.fault, self);
         }
         let found = self.plain_value(bytes, width);
-        self.accepted(bytes.len(), found, true)
+        let next = found.state;
+        self.accepted(bytes.len(), found.value, next, true)
     }
 
     // Reads a plain value.

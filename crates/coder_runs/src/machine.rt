@@ -19,7 +19,7 @@ pub struct Machine {
 }
 
 impl Machine {
-    pub fn fresh(length: usize, byte: u8) -> Machine {
+    pub(crate) fn fresh(length: usize, byte: u8) -> Machine {
         Machine {
             length,
             buffer: [byte; ROOM],
@@ -32,7 +32,7 @@ impl Machine {
         }
     }
 
-    pub fn histogram(self, number: u32) -> [u32; SYMBOLS] {
+    pub(crate) fn histogram(self, number: u32) -> [u32; SYMBOLS] {
         match number {
             0 => self.first,
             1 => self.second,
@@ -41,7 +41,7 @@ impl Machine {
         }
     }
 
-    pub fn with_histogram(self, number: u32, histogram: [u32; SYMBOLS]) -> Machine {
+    pub(crate) fn with_histogram(self, number: u32, histogram: [u32; SYMBOLS]) -> Machine {
         let mut next = self;
         match number {
             0 => next.first = histogram,
@@ -52,7 +52,7 @@ impl Machine {
         next
     }
 
-    pub fn with_weight(self, number: u32, symbol: usize, weight: u32) -> Machine {
+    pub(crate) fn with_weight(self, number: u32, symbol: usize, weight: u32) -> Machine {
         let mut histogram = self.histogram(number);
         if symbol < SYMBOLS {
             histogram[symbol] = weight;
@@ -60,7 +60,7 @@ impl Machine {
         self.with_histogram(number, histogram)
     }
 
-    pub fn with_byte(self, at: usize, byte: u8) -> Machine {
+    pub(crate) fn with_byte(self, at: usize, byte: u8) -> Machine {
         let mut next = self;
         if at < ROOM {
             next.buffer[at] = byte;
@@ -68,25 +68,25 @@ impl Machine {
         next
     }
 
-    pub fn with_length(self, length: usize) -> Machine {
+    pub(crate) fn with_length(self, length: usize) -> Machine {
         let mut next = self;
         next.length = length;
         next
     }
 
-    pub fn with_buffer(self, buffer: [u8; ROOM]) -> Machine {
+    pub(crate) fn with_buffer(self, buffer: [u8; ROOM]) -> Machine {
         let mut next = self;
         next.buffer = buffer;
         next
     }
 
-    pub fn with_writer(self, writer: Writer) -> Machine {
+    pub(crate) fn with_writer(self, writer: Writer) -> Machine {
         let mut next = self;
         next.writer = writer;
         next
     }
 
-    pub fn with_reader(self, reader: Coder) -> Machine {
+    pub(crate) fn with_reader(self, reader: Coder) -> Machine {
         let mut next = self;
         next.reader = reader;
         next

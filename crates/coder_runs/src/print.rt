@@ -7,7 +7,7 @@ use coder::interval::Coder;
 use coder::write::Writer;
 use libc::STDOUT_FILENO;
 
-pub fn print_text(text: &[u8]) {
+pub(crate) fn print_text(text: &[u8]) {
     io::write_all(STDOUT_FILENO, text);
 }
 
@@ -34,7 +34,7 @@ fn print_writer(writer: Writer) {
     }
 }
 
-pub fn print_write(answer: write::Answer) {
+pub(crate) fn print_write(answer: write::Answer) {
     let writer = answer.writer;
     print_text(b"write");
     print_field(answer.number as u64);
@@ -48,14 +48,14 @@ fn print_ended(number: u32, bytes: usize, writer: Writer) {
     print_writer(writer);
 }
 
-pub fn print_end(ended: Ended) {
+pub(crate) fn print_end(ended: Ended) {
     match ended {
         Ended::Done(bytes, writer) => print_ended(0, bytes, writer),
         Ended::Refused(number, writer) => print_ended(number, 0, writer),
     }
 }
 
-pub fn print_read(answer: read::Answer) {
+pub(crate) fn print_read(answer: read::Answer) {
     let state = answer.state;
     print_text(b"read");
     print_field(answer.number as u64);
@@ -69,7 +69,7 @@ fn print_byte(byte: u8) {
     io::print_hex(STDOUT_FILENO, byte as u64, 2);
 }
 
-pub fn print_bytes(bytes: &[u8]) {
+pub(crate) fn print_bytes(bytes: &[u8]) {
     print_text(b"bytes\t");
     let mut i: usize = 0;
     while i < bytes.len() {
@@ -87,7 +87,7 @@ fn print_weight(symbol: usize, weight: u32) {
     }
 }
 
-pub fn print_weights(histogram: [u32; SYMBOLS]) {
+pub(crate) fn print_weights(histogram: [u32; SYMBOLS]) {
     print_text(b"weights");
     for symbol in 0..SYMBOLS {
         print_weight(symbol, histogram[symbol]);

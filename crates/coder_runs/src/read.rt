@@ -52,7 +52,12 @@ fn read_once(call: Call, state: Coder, bytes: &[u8], histogram: &mut [u32; SYMBO
 }
 
 // Reads until a call is refused or all are made; the answer is the last one's.
-pub fn read_all(call: Call, state: Coder, bytes: &[u8], histogram: &mut [u32; SYMBOLS]) -> Answer {
+pub(crate) fn read_all(
+    call: Call,
+    state: Coder,
+    bytes: &[u8],
+    histogram: &mut [u32; SYMBOLS],
+) -> Answer {
     let mut answer = Answer {
         number: 0,
         value: 0,

@@ -61,7 +61,7 @@ fn operand(bytes: &[u8], at: usize) -> u32 {
 }
 
 // The record from a place on, all 0 where the script ends before it does.
-pub fn call_at(script: &[u8], at: usize) -> Call {
+pub(crate) fn call_at(script: &[u8], at: usize) -> Call {
     let bytes = bytes_at(script, at, RECORD_SIZE);
     Call {
         op: operand(bytes, 0),
@@ -73,7 +73,7 @@ pub fn call_at(script: &[u8], at: usize) -> Call {
     }
 }
 
-pub fn is_dynamic(call: Call) -> bool {
+pub(crate) fn is_dynamic(call: Call) -> bool {
     let op = call.op;
     match op {
         WRITE_DYNAMIC | READ_DYNAMIC | TAKE_DYNAMIC => true,
@@ -89,7 +89,7 @@ fn is_width(bytes: usize) -> bool {
 }
 
 // Whether the operation is known and its operands are in their ranges.
-pub fn in_range(call: Call) -> bool {
+pub(crate) fn in_range(call: Call) -> bool {
     let op = call.op;
     let a = call.a as usize;
     let b = call.b as usize;

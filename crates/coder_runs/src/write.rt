@@ -50,7 +50,7 @@ fn reduced(value: u32, below: u32) -> u32 {
 }
 
 // Writes a value and those after it, until one is refused; the answer is the last one's.
-pub fn write_all(
+pub(crate) fn write_all(
     call: Call,
     writer: Writer,
     buf: &mut [u8],

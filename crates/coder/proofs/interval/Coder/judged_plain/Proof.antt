@@ -20,11 +20,11 @@ plain-value-requires : tie.Need-plain-value-requires
 plain-value-requires c κs = let k = readable (c .before .before .before .before .args .look) (c .before .before .before .before .args .bytes .now) (c .before .before .before .before .args .self) (sym (c .before .before .start .ensures .0) ∙ c .if1 .left) in (k .reading, omega arith)
 
 accepted-requires : tie.Need-accepted-requires
-accepted-requires c κs = let k = readable (c .before .before .before .before .before .args .look) (c .before .before .before .before .before .args .bytes .now) (c .before .before .before .before .before .args .self) (sym (c .before .before .before .start .ensures .0) ∙ c .before .if1 .left) in k .small
+accepted-requires c κs = let k = readable (c .before .before .before .before .before .before .args .look) (c .before .before .before .before .before .before .args .bytes .now) (c .before .before .before .before .before .before .args .self) (sym (c .before .before .before .before .start .ensures .0) ∙ c .before .before .if1 .left) in k .small
 
 returns-2 : tie.Need-returns-2
 unfolding takePlain
-returns-2 c = rw (← c .before .plain-value .ensures) (taken-judged _ _ _ true true _ _ _ _ (c .before .before .before .before .start .ensures .0) (c .before .before .if1 .left) refl refl (c .accepted .ensures .0))
+returns-2 c = rw (← c .before .before .plain-value .ensures) (taken-judged _ _ _ true true _ _ _ _ (c .before .before .before .before .before .start .ensures .0) (c .before .before .before .if1 .left) refl refl (c .accepted .ensures .0))
 
 pub judged-plain-spec : {M : Type 1} → statement M
 judged-plain-spec =

@@ -4,7 +4,11 @@ use native.Mathlib.Omega.{arith}
 use mathlib.Core.Bool.{true}
 use Rattle.coder.proofs.Judgements.{readable}
 use Rattle.coder.proofs.Starting.{read-fault, read-range, taken-judged, taken-refused}
+use Rattle.coder.specs.Bytes.{bitAt}
+use Rattle.coder.specs.Interval.{target}
 use Rattle.coder.specs.Reading.{takeStatic}
+use Rattle.coder.proofs.Forward.{static-codable}
+use Rattle.coder.proofs.Stepping.{range-one, range-plain}
 use borrow.Author.Tests.{le-ltb, lt-ltb}
 use borrow.Author.Needs.{needs}
 use Rattle.coder.proofs.interval.Coder.judged_static.Statement.{statement}
@@ -21,17 +25,47 @@ returns-2 : tie.Need-returns-2
 unfolding takeStatic
 returns-2 c = taken-refused _ (λ e. omega arith) (read-range _ _ _ true _ _ _ _ (c .before .before .before .start .ensures .0) (c .before .if1 .left) refl (le-ltb 0 (c .before .before .before .before .before .args .range) (search needs)))
 
-static-value-requires : tie.Need-static-value-requires
-static-value-requires c κs = let k = readable (c .before .before .before .before .before .args .look) (c .before .before .before .before .before .args .bytes .now) (c .before .before .before .before .before .args .self) (sym (c .before .before .before .start .ensures .0) ∙ c .before .if1 .left) in ((k .reading, c .before .before .before .start .ensures .1 (c .before .if1 .left)), (omega arith, search needs))
+target-requires : tie.Need-target-requires
+target-requires c κs = let k = readable (c .before .before .before .before .before .before .args .look) (c .before .before .before .before .before .before .args .bytes .now) (c .before .before .before .before .before .before .args .self) (sym (c .before .before .before .before .start .ensures .0) ∙ c .before .before .if1 .left) in let e = (c .before .before .before .before .start .ensures .1 (c .before .before .if1 .left)) in ((k .reading .limits, rw e (k .reading .from-low), rw e (k .reading .to-high)), (search needs, search needs))
+
+static-span-requires : tie.Need-static-span-requires
+static-span-requires c κs = search needs
+
+after-requires : tie.Need-after-requires
+unfolding target
+after-requires c κs = let k = readable (c .before .before .before .before .before .before .before .before .args .look) (c .before .before .before .before .before .before .before .before .args .bytes .now) (c .before .before .before .before .before .before .before .before .args .self) (sym (c .before .before .before .before .before .before .start .ensures .0) ∙ c .before .before .before .before .if1 .left) in (k .reading .limits, (record { room = omega arith }, rw (c .static-span .ensures, c .before .target .ensures, (c .before .before .before .before .before .before .start .ensures .1 (c .before .before .before .before .if1 .left))) (static-codable (c .before .before .before .before .before .before .before .before .args .self) (c .before .before .before .before .before .before .before .before .args .range) (bitAt (c .before .before .before .before .before .before .before .before .args .bytes .now)) (k .reading) (search needs) (search needs))))
 
 accepted-requires : tie.Need-accepted-requires
-accepted-requires c κs = let k = readable (c .before .before .before .before .before .before .before .args .look) (c .before .before .before .before .before .before .before .args .bytes .now) (c .before .before .before .before .before .before .before .args .self) (sym (c .before .before .before .before .before .start .ensures .0) ∙ c .before .before .before .if1 .left) in k .small
+accepted-requires c κs = let k = readable (c .before .before .before .before .before .before .before .before .before .args .look) (c .before .before .before .before .before .before .before .before .before .args .bytes .now) (c .before .before .before .before .before .before .before .before .before .args .self) (sym (c .before .before .before .before .before .before .before .start .ensures .0) ∙ c .before .before .before .before .before .if1 .left) in k .small
 
 returns-3 : tie.Need-returns-3
+unfolding takeStatic target
+returns-3 c = let e = range-one (c .before .before .before .before .before .before .before .before .before .before .args .range) (bitAt (c .before .before .before .before .before .before .before .before .before .before .args .bytes .now)) (c .before .before .before .before .before .before .before .before .before .before .args .self) (c .before .before .before .target .result) (c .before .after .result) (search needs) (c .before .before .before .target .ensures ∙ rw (c .before .before .before .before .before .before .before .before .start .ensures .1 (c .before .before .before .before .before .before .if1 .left))) (c .before .after .ensures ∙ rw (c .before .before .static-span .ensures)) in
+    rw (← e) (taken-judged _ _ _ true _ _ _ _ _ (c .before .before .before .before .before .before .before .before .start .ensures .0) (c .before .before .before .before .before .before .if1 .left) refl (lt-ltb 0 (c .before .before .before .before .before .before .before .before .before .before .args .range) (search needs)) (c .accepted .ensures .0))
+
+plain-u32-requires : tie.Need-plain-u32-requires
+plain-u32-requires c κs = let k = readable (c .before .before .before .before .before .before .args .look) (c .before .before .before .before .before .before .args .bytes .now) (c .before .before .before .before .before .before .args .self) (sym (c .before .before .before .before .start .ensures .0) ∙ c .before .before .if1 .left) in (k .reading, omega arith)
+
+accepted-requires-2 : tie.Need-accepted-requires-2
+accepted-requires-2 c κs = let k = readable (c .before .before .before .before .before .before .before .before .before .args .look) (c .before .before .before .before .before .before .before .before .before .args .bytes .now) (c .before .before .before .before .before .before .before .before .before .args .self) (sym (c .before .before .before .before .before .before .before .start .ensures .0) ∙ c .before .before .before .before .before .if1 .left) in k .small
+
+returns-4 : tie.Need-returns-4
 unfolding takeStatic
-returns-3 c = rw (← c .before .before .static-value .ensures) (taken-judged _ _ _ true _ _ _ _ _ (c .before .before .before .before .before .before .start .ensures .0) (c .before .before .before .before .if1 .left) refl (lt-ltb 0 (c .before .before .before .before .before .before .before .before .args .range) (search needs)) (c .accepted .ensures .0))
+returns-4 c = let e = range-plain (c .before .before .before .before .before .before .before .before .before .before .args .range) (bitAt (c .before .before .before .before .before .before .before .before .before .before .args .bytes .now)) (c .before .before .before .before .before .before .before .before .before .before .args .self) (c .before .before .before .plain-u32 .result) (search needs) (c .before .before .before .plain-u32 .ensures) in
+    rw (← e) (taken-judged _ _ _ true _ _ (c .before .before .before .plain-u32 .result) _ _ (c .before .before .before .before .before .before .before .before .start .ensures .0) (c .before .before .before .before .before .before .if1 .left) refl (lt-ltb 0 (c .before .before .before .before .before .before .before .before .before .before .args .range) (search needs)) (c .accepted2 .ensures .0))
 
 pub judged-static-spec : {M : Type 1} → statement M
 judged-static-spec =
     tie.close
-    (tie.spec start-requires returns returns-2 static-value-requires accepted-requires returns-3)
+    (tie.spec
+    start-requires
+    returns
+    returns-2
+    target-requires
+    static-span-requires
+    after-requires
+    accepted-requires
+    returns-3
+    plain-u32-requires
+    accepted-requires-2
+    returns-4)
