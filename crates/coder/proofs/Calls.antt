@@ -12,7 +12,7 @@ use Rattle.coder.specs.Interval.{Agrees, Coder, Span}
 use Rattle.coder.specs.Reading.{readNumber, takeDynamic, takeNumber, takePlain, takeStatic, taken, takenHistogram}
 use Rattle.coder.specs.Runs.{Context, Histograms, ReadCall, Typed, WriteCall, callRead, callWrite, dynamic, plain, static}
 use Rattle.coder.specs.Symbols.{afterSymbols, dynamicSpans, plainSpans, staticSpans, symbolsBits}
-use Rattle.coder.specs.Writing.{Writer, dynamicNumber, end, endNumber, endWith, write, writeDynamic, writeNumber, writePlain, writeStatic, writtenHistogram}
+use Rattle.coder.specs.Writing.{Writer, dynamicNumber, end, endNumber, endAs, write, writeDynamic, writeNumber, writePlain, writeStatic, writtenHistogram}
 use borrow.Author.Tests.{lt-ltb, ltb-true}
 use lib.Dec.{ltb}
 use lib.ListN.{getD, length, take}
@@ -95,8 +95,8 @@ call-back look d l w hs (dynamic k) v t e h =
 
 -- The bytes that the end says are used continue what was there before it.
 pub ended-back : (l : List ℕ) (w : Writer) → (end l w) .number ≡ 0 → Continues (take ((end l w) .used) ((end l w) .bytes)) l (w .coder)
-unfolding end endNumber endWith
+unfolding end endNumber endAs
 ended-back l w e =
-    let done = end-zero (endNumber l w) l w e in
+    let done = end-zero (endNumber l w) l w _ _ e in
     let p = write-passed l (w .coder) _ _ _ done in
     rw done (end-back (w .compressed) l (w .coder) (p .writable .limits) (p .writable .small) (omega (arith, p .room)))

@@ -9,7 +9,7 @@ use Rattle.coder.specs.Interval.{Coder, afterSymbol, code, fresh, narrow
 use Rattle.coder.specs.Runs.{AllDone, AllTyped, Number, WriteCall, bytesAfter, callWrite, contextOf, dynamic, plain, readBack, readCalls, static, writeCalls, writerAfter}
 use Rattle.coder.specs.Stream.{word}
 use Rattle.coder.specs.Symbols.{afterSymbols, dynamicAfter, dynamicSpans, plainSpans, reversed, staticSpans, symbolsBits}
-use Rattle.coder.specs.Writing.{End, Write, dynamicNumber, end, endNumber, endWith, freshWriter, write, writeDynamic, writeFault, writeNumber, writePlain, writeStatic, writtenHistogram}
+use Rattle.coder.specs.Writing.{End, Write, dynamicNumber, end, endNumber, endAs, freshWriter, write, writeDynamic, writeFault, writeNumber, writePlain, writeStatic, writtenHistogram}
 use lib.ListN.{replicate, take}
 use mathlib.Core.Bool.{true}
 use mathlib.Core.List.{List, [], _∷_, map}
@@ -76,7 +76,7 @@ unfolding run AllTyped
 run-typed = (omega arith, (omega arith, (omega arith, (omega arith, tt))))
 
 run-done : AllDone run-calls × (run-ended .number ≡ 0)
-unfolding examples AllDone bitsOf bytesAfter code codeWithin end endBits endNumber endState endWith finds flushBits flushState isRun lowBits
+unfolding examples AllDone bitsOf bytesAfter code codeWithin end endBits endNumber endState endAs finds flushBits flushState isRun lowBits
     lowState pendingInverted placed run word writePlain writerAfter
 run-done = ((refl, (refl, (refl, (refl, tt)))), refl)
 

@@ -8,10 +8,10 @@ use Rattle.coder.proofs.Turns.{settled-length}
 use Rattle.coder.specs.Bytes.{bytesOf, padded, putBits, storeBits}
 use Rattle.coder.specs.Ending.{bitsOf, endBits, endState, lowBits, lowState}
 use Rattle.coder.specs.Forms.{fits}
-use Rattle.coder.specs.Inside.{Holds, endAs, granted, roomNumber}
+use Rattle.coder.specs.Inside.{Holds, granted, roomNumber}
 use Rattle.coder.specs.Interval.{Coder, Span, settledBits}
 use Rattle.coder.specs.Symbols.{afterSymbols, byteSpan, plainSpans, symbolsBits}
-use Rattle.coder.specs.Writing.{End, Write, Writer, end, endNumber, endWith, write, writeFault, writtenGiven}
+use Rattle.coder.specs.Writing.{End, Write, Writer, end, endAs, endNumber, write, writeFault, writtenGiven}
 use Rattle.coder.specs.declared.write.Written.{Written}
 use Rattle.fields.specs.Numbers.{noRoom}
 use borrow.Author.Tests.{le-leb, leb-true}
@@ -120,21 +120,19 @@ module _
 
 -- ---- the whole end
 
-end-as : (n : ℕ) (l : List ℕ) (w : Writer) → endWith n l w ≡ endAs n l w (endState (w .compressed) (w .coder)) (endBits (w .compressed) (w .coder))
-unfolding endWith endAs
-end-as zero l w = refl
-end-as (suc n) l w = refl
-
-end-refuses : (n : ℕ) (l : List ℕ) (w : Writer) → (n ≡ 0 → ⊥) → record { number = n; used = 0; writer = w; bytes = l } ≡ endWith n l w
-unfolding endWith
-end-refuses zero l w some = absurd (some refl)
-end-refuses (suc n) l w some = refl
+end-refuses : {n m : ℕ} (l : List ℕ) (w : Writer) (next : Coder) (bits : List ℕ) → (n ≡ 0 → ⊥) → n ≡ m
+    → record { number = n; used = 0; writer = w; bytes = l } ≡ endAs m l w next bits
+end-refuses {n} {m} l w next bits some same = go n some ∙ ap (λ (k : ℕ). endAs k l w next bits) same
+  where
+    go : (k : ℕ) → (k ≡ 0 → ⊥) → record { number = k; used = 0; writer = w; bytes = l } ≡ endAs k l w next bits
+    go zero other = absurd (other refl)
+    go (suc k) other = unfold endAs in refl
 
 module _ (l : List ℕ) (w : Writer) (fault : ℕ) (judged : fault ≡ writeFault (w .coder) (length l)) where
   -- a fault is the answer
   pub end-refused : (fault ≡ 0 → ⊥) → record { number = fault; used = 0; writer = w; bytes = l } ≡ end l w
   unfolding end endNumber
-  end-refused some = end-refuses fault l w some ∙ ap (λ (n : ℕ). endWith n l w) (number-fault l (w .coder) true true _ fault judged some)
+  end-refused some = end-refuses l w _ _ some (number-fault l (w .coder) true true _ fault judged some)
 
   module _ (none : fault ≡ 0) where
     pub end-writable : Writable (w .coder) (length l)
@@ -148,7 +146,7 @@ module _ (l : List ℕ) (w : Writer) (fault : ℕ) (judged : fault ≡ writeFaul
         let s : endState (w .compressed) (w .coder) ≡ next = rw same (e .0) in
         let b : endBits (w .compressed) (w .coder) ≡ bits = rw same (e .1) in
         let n : roomNumber l (endState (w .compressed) (w .coder)) ≡ endNumber l w = number-room l (w .coder) true true _ fault judged none refl refl in
-        (rw (← s, ← b) at ends) ∙ sym (end-as _ l w) ∙ ap (λ (n : ℕ). endWith n l w) n
+        (rw (← s, ← b) at ends) ∙ ap (λ (n : ℕ). endAs n l w (endState (w .compressed) (w .coder)) (endBits (w .compressed) (w .coder))) n
 
     pub finish-zero : (r : End) → w .compressed ≡ true → r ≡ endsZero l w → r ≡ end l w
     finish-zero r same ends = end-judged r true _ _ same (end-flush (w .coder) (end-writable .limits)) ends

@@ -10,7 +10,7 @@ use Rattle.coder.specs.Interval.{Agrees, Coder, Inverted, Span, WellForm
 use Rattle.coder.specs.Reading.{readFault, readNumber, taken}
 use Rattle.coder.specs.Stream.{Stream}
 use Rattle.coder.specs.Values.{Found}
-use Rattle.coder.specs.Writing.{Writer, endWith, write, writeFault, writeNumber}
+use Rattle.coder.specs.Writing.{Writer, endAs, write, writeFault, writeNumber}
 use Rattle.fields.specs.Limits.{largestFile}
 use Rattle.fields.specs.Numbers.{badState, noRoom, outOfRange, overLimit, truncated}
 use borrow.Author.Tests.{le-leb, leb-true, lt-ltb, ltb-true}
@@ -191,10 +191,10 @@ unfolding write
 write-zero zero l w compresses spans e = refl
 write-zero (suc n) l w compresses spans e = e
 
-pub end-zero : (n : ℕ) (l : List ℕ) (w : Writer) → (endWith n l w) .number ≡ 0 → n ≡ 0
-unfolding endWith
-end-zero zero l w e = refl
-end-zero (suc n) l w e = e
+pub end-zero : (n : ℕ) (l : List ℕ) (w : Writer) (next : Coder) (bits : List ℕ) → (endAs n l w next bits) .number ≡ 0 → n ≡ 0
+unfolding endAs
+end-zero zero l w next bits e = refl
+end-zero (suc n) l w next bits e = e
 
 pub taken-zero : (n : ℕ) (found : Found) (s : Coder) → (taken n found s) .number ≡ 0 → n ≡ 0
 unfolding taken

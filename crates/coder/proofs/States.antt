@@ -14,7 +14,7 @@ use Rattle.coder.specs.Interval.{Coder, Span, WellFormed}
 use Rattle.coder.specs.Reading.{readNumber, takeDynamic, takeNumber, takePlain, takeStatic, taken, takenHistogram}
 use Rattle.coder.specs.Symbols.{afterSymbols, dynamicSpans, plainSpans, staticSpans}
 use Rattle.coder.specs.Values.{Found, readDynamic, readPlain, readStatic}
-use Rattle.coder.specs.Writing.{Writer, dynamicNumber, end, endNumber, endWith, write, writeDynamic, writeNumber, writePlain, writeStatic, writtenHistogram}
+use Rattle.coder.specs.Writing.{Writer, dynamicNumber, end, endNumber, endAs, write, writeDynamic, writeNumber, writePlain, writeStatic, writtenHistogram}
 use borrow.Author.Tests.{ltb-true}
 use lib.Dec.{ltb}
 use lib.ListN.{length}
@@ -73,9 +73,9 @@ end-wellformed compressed s w =
 
 -- So does the end.
 pub end-formed : (l : List ℕ) (w : Writer) → (end l w) .number ≡ 0 → writerFormed ((end l w) .writer .coder) (length l) ≡ true
-unfolding end endWith endNumber
+unfolding end endAs endNumber
 end-formed l w e =
-    let z : endNumber l w ≡ 0 = end-zero (endNumber l w) l w e in
+    let z : endNumber l w ≡ 0 = end-zero (endNumber l w) l w _ _ e in
     let p = write-passed l (w .coder) true true _ z in
     rw z (writer-hold _ _ (end-wellformed (w .compressed) (w .coder) (p .writable .limits)) (p .room))
 

@@ -1,13 +1,12 @@
 -- What the private functions ask of one another.
 use Prim.Native.Nat.{ℕ, zero, suc, _+_, _*_, _/_, _^_, _≤_, _<_}
-use Rattle.coder.specs.Bytes.{bytesOf, storeBits}
 use Rattle.coder.specs.Forms.{fits, limitsFormed, unless}
 use Rattle.coder.specs.Histogram.{Histogram, spanOf, sum, values}
 use Rattle.coder.specs.Interval.{Codable, Coder, Span, WellFormed, afterSymbol, code, largestRange}
 use Rattle.coder.specs.Stream.{Stream}
 use Rattle.coder.specs.Symbols.{afterSymbols}
 use Rattle.coder.specs.Values.{Found, nextSymbol}
-use Rattle.coder.specs.Writing.{End, Write, Writer, write}
+use Rattle.coder.specs.Writing.{End, Write, Writer, endAs, write}
 use Rattle.coder.specs.declared.read.Read.{Read}
 use Rattle.coder.specs.declared.write.Written.{Written}
 use Rattle.fields.specs.Limits.{largestFile}
@@ -96,17 +95,7 @@ pub record Next (h : Histogram) (x : Stream) (s : Coder) (index start : ℕ) : T
   pub codable : Codable (spanOf h index)
   pub reading : Reading (afterSymbol s (spanOf h index)) x
 
--- an end, by its number: the state after it and its bits
-unfoldable pub endAs : ℕ → List ℕ → Writer → Coder → List ℕ → End
-endAs zero l w next bits =
-    record {
-      number = 0;
-      used = bytesOf (next .settled);
-      writer = record { coder = next; compressed = w .compressed };
-      bytes = storeBits l (w .coder .settled) bits;
-    }
-endAs (suc n) l w next bits = record { number = suc n; used = 0; writer = w; bytes = l }
-
+-- an end at no fault
 abbrev pub endRoom : List ℕ → Writer → Coder → List ℕ → End
 endRoom l w next bits = endAs (roomNumber l next) l w next bits
 

@@ -91,15 +91,16 @@ endedGiven (ended.the-variants.Refused n w) l = record { number = n; used = 0; w
 unfoldable pub endNumber : List ℕ → Writer → ℕ
 endNumber l w = writeNumber l (w .coder) true true (endState (w .compressed) (w .coder))
 
-unfoldable pub endWith : ℕ → List ℕ → Writer → End
-endWith zero l w =
+-- an end by its number: the state after it, and its bits stored
+unfoldable pub endAs : ℕ → List ℕ → Writer → Coder → List ℕ → End
+endAs zero l w next bits =
     record {
       number = 0;
-      used = bytesOf ((endState (w .compressed) (w .coder)) .settled);
-      writer = record { coder = endState (w .compressed) (w .coder); compressed = w .compressed };
-      bytes = storeBits l (w .coder .settled) (endBits (w .compressed) (w .coder));
+      used = bytesOf (next .settled);
+      writer = record { coder = next; compressed = w .compressed };
+      bytes = storeBits l (w .coder .settled) bits;
     }
-endWith (suc n) l w = record { number = suc n; used = 0; writer = w; bytes = l }
+endAs (suc n) l w next bits = record { number = suc n; used = 0; writer = w; bytes = l }
 
 unfoldable pub end : List ℕ → Writer → End
-end l w = endWith (endNumber l w) l w
+end l w = endAs (endNumber l w) l w (endState (w .compressed) (w .coder)) (endBits (w .compressed) (w .coder))
