@@ -124,7 +124,7 @@ byte-clear : (s : Coder) → WellFormed s → s .low ≡ 0 → Clear (next s)
 unfolding afterSymbol
 byte-clear s w z =
     let n = byte-narrows s w in
-    let turn = settle-more 16 (narrowed s) (omega arith) (omega arith) in
+    let turn = settle-more 15 (narrowed s) (omega arith) in
     let c : Clear (settleTops 15 (settleTop (narrowed s))) = settle-clear 15 (settleTop (narrowed s)) (omega arith) in
     postpone-clear 16 (settleTops 16 (narrowed s)) (rw turn at c)
 

@@ -5,8 +5,9 @@ pub mod Reversal
 pub mod Streams
 pub mod Windows
 pub mod Carrying
-pub mod Turns
 pub mod Limits
+pub mod Turns
+pub mod Counting
 pub mod Sequence
 pub mod Weights
 pub mod Spans

@@ -2,7 +2,6 @@
 use Prim.Native.Nat.{ℕ, zero, suc, _+_, _*_, _-_, _/_, _^_, _≤_, _<_}
 use Rattle.coder.proofs.Narrowing.{part-le, part-next}
 use Rattle.coder.proofs.Putting.{length-putBits}
-use Rattle.coder.proofs.Turns.{settle-more}
 use Rattle.coder.specs.Bytes.{putBits}
 use Rattle.coder.specs.Inside.{Holds}
 use Rattle.coder.specs.Interval.{Codable, WellFormed, afterSymbol, highStraddles, lowStraddles, narrow, postpone, postpones, settleTop, settleTops, settledBits, topBits, topsAgree}
@@ -49,13 +48,14 @@ pub record Ordered (s : Coder) : Type 0 where
   pub order : s .low ≤ s .high
   pub fits : s .high ≤ 0xFFFF
 
-record Parted (s : Coder) : Type 0 where
-  low-top : s .low < 0x8000
-  high-top : 0x8000 ≤ s .high
-  fits : s .high ≤ 0xFFFF
+-- limits whose top bits are 0 and 1
+pub record Parted (s : Coder) : Type 0 where
+  pub low-top : s .low < 0x8000
+  pub high-top : 0x8000 ≤ s .high
+  pub fits : s .high ≤ 0xFFFF
 
 -- the size doubles with each turn
-double : (x y n : ℕ) → y ≡ 2 * x → 0x10000 ≤ x * 2 ^ suc n → 0x10000 ≤ y * 2 ^ n
+pub double : (x y n : ℕ) → y ≡ 2 * x → 0x10000 ≤ x * 2 ^ suc n → 0x10000 ≤ y * 2 ^ n
 double x y n e h = rw (e, mul-comm 2 x, mul-assoc x 2 (2 ^ n), mul-comm 2 (2 ^ n), ← pow-suc 2 n) h
 
 settled-parted : (n : ℕ) (s : Coder) → Ordered s → 0x10000 ≤ (s .high + 1 - s .low) * 2 ^ n → Parted (settleTops n s)
@@ -81,8 +81,12 @@ postponed-apart (suc n) s o w =
     (λ e. let other : s .high / 0x4000 ≡ 2 → ⊥ = eqb-false _ _ e in omega arith)
 
 -- any interval that is not empty is wide enough for 16 turns
-wide16 : (x : ℕ) → 1 ≤ x → 0x10000 ≤ x * 2 ^ 16
+pub wide16 : (x : ℕ) → 1 ≤ x → 0x10000 ≤ x * 2 ^ 16
 wide16 x h = omega arith
+
+-- after the turns that settle top bits, these differ
+pub tops-parted : (s : Coder) → Ordered s → Parted (settleTops 16 s)
+tops-parted s o = settled-parted 16 s o (wide16 _ (omega arith))
 
 -- a symbol that can be coded has a part of the interval that is not empty
 pub narrow-ordered : (s : Coder) (a : Span) → WellFormed s → Codable a → Ordered (narrow s a)
@@ -98,7 +102,7 @@ pub after-wellformed : (s : Coder) (a : Span) → WellFormed s → Codable a →
 unfolding afterSymbol
 after-wellformed s a w g =
     let o : Ordered (narrow s a) = narrow-ordered s a w g in
-    let p : Parted (settleTops 16 (narrow s a)) = settled-parted 16 (narrow s a) o (wide16 _ (omega arith)) in
+    let p : Parted (settleTops 16 (narrow s a)) = tops-parted (narrow s a) o in
     postponed-apart 16 _ p (wide16 _ (omega arith))
 
 -- the counts of bits: a turn settles or postpones one more
@@ -130,12 +134,6 @@ pub after-grown : (s : Coder) (a : Span) → Grown 32 s (afterSymbol s a)
 unfolding afterSymbol
 after-grown s a =
     omega (arith, narrow-grown s a, settle-grown 16 (narrow s a), postpone-grown 16 (settleTops 16 (narrow s a)))
-
--- what holds the bits of all turns that are left holds those of the next
-pub turn-holds : (n : ℕ) (s : Coder) (l : List ℕ) → 0 < n → s .low / 0x8000 ≡ s .high / 0x8000 → Holds l (settleTops n s) → Holds l (settleTop s)
-turn-holds n s l h e g =
-    let g' : Holds l (settleTops (n - 1) (settleTop s)) = rw (settle-more n s h e) g in
-    omega (arith, settle-grown (n - 1) (settleTop s))
 
 -- bits that are put leave the bytes as many
 pub holds-put : (bs l : List ℕ) (p : ℕ) {s : Coder} → Holds l s → Holds (putBits l p bs) s

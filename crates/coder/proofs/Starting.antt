@@ -65,11 +65,34 @@ module _ (look : Bool) (d : List ℕ) (s : Coder) (k : Countable s (length d)) w
   pub fault-unlooked : codeWithin s (bitAt d) ≡ true → look ≡ false → 0 ≡ readFault look d s
   fault-unlooked e f = rw (counted, e, f)
 
-  pub fault-uninverted : codeWithin s (bitAt d) ≡ true → look ≡ true → pendingInverted s (bitAt d) ≡ false → badState ≡ readFault look d s
-  fault-uninverted e f g = rw (counted, e, f, g)
+-- what is wrong but for the pending bits, and these, where they are looked at
+module _ (look : Bool) (d : List ℕ) (s : Coder) (n : ℕ) (judged : n ≡ readFault false d s) where
+  pub fault-first : (n ≡ 0 → ⊥) → n ≡ readFault look d s
+  unfolding readFault
+  fault-first some = go (leb (length d) largestFile) (readerFormed s (bitAt d)) _ judged
+    where
+      go : (a b c : Bool) → n ≡ unless a overLimit (unless (b && true) badState 0) → n ≡ unless a overLimit (unless (b && c) badState 0)
+      go false b c e = e
+      go true false c e = e
+      go true true c e = absurd (some e)
 
-  pub fault-none : codeWithin s (bitAt d) ≡ true → look ≡ true → pendingInverted s (bitAt d) ≡ true → 0 ≡ readFault look d s
-  fault-none e f g = rw (counted, e, f, g)
+  module _ (none : n ≡ 0) where
+    -- the one test that is left
+    looked-at : readFault look d s ≡ unless (not look || pendingInverted s (bitAt d)) badState 0
+    unfolding readFault
+    looked-at = go (leb (length d) largestFile) (readerFormed s (bitAt d)) _ (sym judged ∙ none)
+      where
+        go : (a b c : Bool) → unless a overLimit (unless (b && true) badState 0) ≡ 0
+            → unless a overLimit (unless (b && c) badState 0) ≡ unless c badState 0
+        go false b c e = absurd (omega (arith, e))
+        go true false c e = absurd (omega (arith, e))
+        go true true c e = refl
+
+    pub fault-looked : (not look || pendingInverted s (bitAt d)) ≡ false → badState ≡ readFault look d s
+    fault-looked e = rw (looked-at, e)
+
+    pub fault-none : (not look || pendingInverted s (bitAt d)) ≡ true → 0 ≡ readFault look d s
+    fault-none e = rw (looked-at, e)
 
 -- ---- a whole call
 

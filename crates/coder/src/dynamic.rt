@@ -168,9 +168,12 @@ impl Coder {
         ensures { λ r. ⌜ readGiven r ≡ takeDynamic look (now (frequencies .entry)) (now (bytes .entry)) self ⌝ }
         ensures { λ r. ⌜ now (frequencies .exit) ≡ takenHistogram look (now (frequencies .entry)) (now (bytes .entry)) self ⌝ }
     {
-        let start = self.start(bytes, look);
+        let start = self.start(bytes);
         if start.fault != 0 {
             return Read::Refused(start.fault, self);
+        }
+        if !self.looked(bytes, look) {
+            return Read::Refused(BAD_STATE, self);
         }
         let total = total_of(&*frequencies);
         if !histogram_formed(&*frequencies, total) {

@@ -9,9 +9,6 @@ ghost use Rattle.coder.specs.Inside.{Room, Divisible, Straddles, Holds};
 use crate::bits::put_bit;
 use crate::bits::put_run;
 
-// At most this many turns settle or postpone the bits of one symbol.
-const TURNS: u32 = 16;
-
 // The limits, the bits that wait for the next settled one, and the count of settled bits.
 pub struct Coder {
     pub low: u32,
@@ -83,16 +80,12 @@ impl Coder {
 
     fn tops_settled(self) -> Coder
         requires { ⌜ Room 16 self ⌝ }
+        requires { ⌜ (self .low ≤ self .high) × (self .high ≤ 0xFFFF) ⌝ }
         ensures { λ r. ⌜ r ≡ settleTops 16 self ⌝ }
     {
         let mut s = self;
-        let mut left = TURNS;
-        while 0 < left {
-            if s.low / 0x8000 != s.high / 0x8000 {
-                return s;
-            }
+        while s.low / 0x8000 == s.high / 0x8000 {
             s = s.top_settled();
-            left -= 1;
         }
         s
     }
@@ -112,19 +105,15 @@ impl Coder {
 
     fn all_postponed(self) -> Coder
         requires { ⌜ Room 16 self ⌝ }
+        requires { ⌜ (self .low < 0x8000) × ((0x8000 ≤ self .high) × (self .high ≤ 0xFFFF)) ⌝ }
         ensures { λ r. ⌜ r ≡ postpones 16 self ⌝ }
     {
         let mut s = self;
-        let mut left = TURNS;
-        while 0 < left {
-            if s.low / 0x4000 != 1 {
-                return s;
-            }
+        while s.low / 0x4000 == 1 {
             if s.high / 0x4000 != 2 {
                 return s;
             }
             s = s.postponed();
-            left -= 1;
         }
         s
     }
@@ -152,19 +141,14 @@ impl Coder {
 
     // Puts the bits that settle while the top bits agree.
     fn put_tops(self, buf: &mut [u8])
-        requires { ⌜ self .low ≤ 0xFFFF ⌝ }
+        requires { ⌜ (self .low ≤ self .high) × (self .high ≤ 0xFFFF) ⌝ }
         requires { ⌜ Holds (now buf) (settleTops 16 self) ⌝ }
         ensures { λ _. ⌜ now (buf .exit) ≡ putBits (now (buf .entry)) (self .settled) (topBits 16 self) ⌝ }
     {
         let mut s = self;
-        let mut left = TURNS;
-        while 0 < left {
-            if s.low / 0x8000 != s.high / 0x8000 {
-                return;
-            }
+        while s.low / 0x8000 == s.high / 0x8000 {
             s.put_top(&mut *buf);
             s = s.top_settled();
-            left -= 1;
         }
     }
 

@@ -1,7 +1,7 @@
 // The coder's reader: it judges what it is lent and finds the number that the bits were written for.
 ghost use Rattle.fields.specs.Limits.{largestFile};
 ghost use mathlib.Core.Path.{_≡_};
-ghost use mathlib.Core.Bool.{_&&_, true, false};
+ghost use mathlib.Core.Bool.{_&&_, _||_, not, true, false};
 ghost use Prim.Native.Nat.{_+_, _*_, _-_, _/_, _^_, _<_, _≤_};
 ghost use lib.ListN.{length};
 ghost use Rattle.coder.specs.Bytes.{bitAt};
@@ -185,9 +185,20 @@ impl Coder {
         0
     }
 
-    // What every read begins with. The pending bits are judged only where asked.
-    pub(crate) fn start(self, bytes: &[u8], look: bool) -> Start
-        ensures { λ r. ⌜ r .fault ≡ readFault look (now (bytes .entry)) self ⌝ }
+    // Whether the pending bits are inverted, where that is asked.
+    pub(crate) fn looked(self, bytes: &[u8], look: bool) -> bool
+        requires { ⌜ (self .settled < 2 ^ 32) × (self .pending < 2 ^ 32) × (length (now bytes) ≤ largestFile) ⌝ }
+        ensures { λ r. ⌜ r ≡ (not look || pendingInverted self (bitAt (now (bytes .entry)))) ⌝ }
+    {
+        if !look {
+            return true;
+        }
+        self.pending_inverted(bytes)
+    }
+
+    // What every read begins with, but for the pending bits.
+    pub(crate) fn start(self, bytes: &[u8]) -> Start
+        ensures { λ r. ⌜ r .fault ≡ readFault false (now (bytes .entry)) self ⌝ }
         ensures { λ r. ⌜ (r .fault ≡ 0 → r .number ≡ code self (bitAt (now (bytes .entry)))) ⌝ }
     {
         let fault = self.count_fault(bytes.len());
@@ -196,15 +207,6 @@ impl Coder {
         }
         let number = self.code(bytes);
         if !self.holds(number) {
-            return Start {
-                fault: BAD_STATE,
-                number,
-            };
-        }
-        if !look {
-            return Start { fault: 0, number };
-        }
-        if !self.pending_inverted(bytes) {
             return Start {
                 fault: BAD_STATE,
                 number,
@@ -232,9 +234,12 @@ impl Coder {
     fn judged_static(self, bytes: &[u8], look: bool, range: u32) -> Read
         ensures { λ r. ⌜ readGiven r ≡ takeStatic look range (now (bytes .entry)) self ⌝ }
     {
-        let start = self.start(bytes, look);
+        let start = self.start(bytes);
         if start.fault != 0 {
             return Read::Refused(start.fault, self);
+        }
+        if !self.looked(bytes, look) {
+            return Read::Refused(BAD_STATE, self);
         }
         if range == 0 {
             return Read::Refused(OUT_OF_RANGE, self);
@@ -264,9 +269,12 @@ impl Coder {
     fn judged_plain(self, bytes: &[u8], look: bool, width: Width) -> Read
         ensures { λ r. ⌜ readGiven r ≡ takePlain look (bytesIn width) (now (bytes .entry)) self ⌝ }
     {
-        let start = self.start(bytes, look);
+        let start = self.start(bytes);
         if start.fault != 0 {
             return Read::Refused(start.fault, self);
+        }
+        if !self.looked(bytes, look) {
+            return Read::Refused(BAD_STATE, self);
         }
         let found = self.plain_value(bytes, width);
         let next = found.state;

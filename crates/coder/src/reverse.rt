@@ -268,11 +268,26 @@ pub(crate) fn reversed(b: u8) -> u8
     REVERSED[b as usize]
 }
 
+// A byte with its bits in reverse order, by arithmetic: at every number that is read, the table would be copied to the stack first.
+fn reversed_byte(v: u32) -> u32
+    ensures { λ r. ⌜ (r ≡ reversed 8 v) × (r < 0x100) ⌝ }
+{
+    let a = v / 2;
+    let b = a / 2;
+    let c = b / 2;
+    let d = c / 2;
+    let e = d / 2;
+    let f = e / 2;
+    let g = f / 2;
+    v % 2 * 128
+        + (a % 2 * 64
+            + (b % 2 * 32 + (c % 2 * 16 + (d % 2 * 8 + (e % 2 * 4 + (f % 2 * 2 + g % 2))))))
+}
+
 // Sixteen bits in reverse order.
 pub(crate) fn reversed_word(v: u32) -> u32
     requires { ⌜ v < 0x10000 ⌝ }
     ensures { λ r. ⌜ r ≡ reversed 8 (v % 256) * 256 + reversed 8 (v / 256) ⌝ }
 {
-    let table = REVERSED;
-    table[(v % 256) as usize] as u32 * 256 + table[(v / 256) as usize] as u32
+    reversed_byte(v % 256) * 256 + reversed_byte(v / 256)
 }

@@ -1,5 +1,4 @@
 -- `coder::interval::Coder::put_symbol` meets its contract.
-use native.Mathlib.Omega.{arith}
 use Rattle.coder.specs.Interval.{symbolBits, narrow}
 use Rattle.coder.proofs.Limits.{narrow-ordered, symbol-holds}
 use borrow.Author.Needs.{needs}
@@ -12,7 +11,8 @@ narrowed-requires c κs = search needs
 put-tops-requires : tie.Need-put-tops-requires
 put-tops-requires c κs =
     let a = c .before .before .before .args in
-    rw (c .before .narrowed .ensures) (omega (arith, narrow-ordered (a .self) (a .span) (search needs) (search needs)), symbol-holds _ _ _ (search needs))
+    let o = narrow-ordered (a .self) (a .span) (search needs) (search needs) in
+    rw (c .before .narrowed .ensures) ((o .order, o .fits), symbol-holds _ _ _ (search needs))
 
 same-length : tie.Need-same-length
 same-length c = search needs

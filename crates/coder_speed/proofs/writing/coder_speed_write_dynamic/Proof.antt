@@ -1,0 +1,103 @@
+-- The invariant: the numbers that are left lead to the same end.
+use borrow.Author.Needs.{needs}
+use mathlib.Core.Logic.{⊎-elim}
+use mathlib.Core.Path.{_≡_, ap, refl, _∙_}
+use lib.ListN.{length}
+use Rattle.coder.specs.Histogram.{freshHistogram}
+use Rattle.coder.specs.Writing.{freshWriter}
+use Rattle.coder_speed.specs.Loops.{bytesAfter, usedBytes, writeDynamicRun}
+use Rattle.coder_speed.proofs.Turns.{told-written, write-dynamic-none, write-dynamic-stop, write-dynamic-turn}
+use Rattle.coder_speed.proofs.writing.coder_speed_write_dynamic.Statement.{statement}
+use Rattle.coder_speed.proofs.writing.coder_speed_write_dynamic.Tie as tie
+
+abbrev Inv-loop : tie.InvT-loop
+Inv-loop buf₀ values seed count frequencies₀ w₀ next₀ left₀ buf frequencies w next left = (writeDynamicRun values left next frequencies buf w ≡ writeDynamicRun values count seed freshHistogram buf₀ freshWriter) × (length buf ≡ length buf₀)
+
+abbrev μ-loop : tie.MeasureT-loop
+μ-loop buf₀ values seed count frequencies₀ w₀ next₀ left₀ buf frequencies w next left = left
+
+fresh-histogram-requires : tie.Need-fresh-histogram-requires Inv-loop μ-loop
+fresh-histogram-requires c κs = search needs
+
+fresh-requires : tie.Need-fresh-requires Inv-loop μ-loop
+fresh-requires c κs = search needs
+
+loop-holds : tie.Need-loop-holds Inv-loop μ-loop
+loop-holds c = (rw (c .before .fresh-histogram .ensures, c .fresh .ensures) refl, refl)
+
+next-seed-requires : tie.Need-next-seed-requires Inv-loop μ-loop
+next-seed-requires c κs = search needs
+
+below-requires : tie.Need-below-requires Inv-loop μ-loop
+below-requires c κs = search needs
+
+write-dynamic-requires : tie.Need-write-dynamic-requires Inv-loop μ-loop
+write-dynamic-requires c κs = search needs
+
+enum-known-number : tie.Need-enum-known-number Inv-loop μ-loop
+enum-known-number c = search needs
+
+ended-requires : tie.Need-ended-requires Inv-loop μ-loop
+ended-requires c κs = search needs
+
+same-length : tie.Need-same-length Inv-loop μ-loop
+same-length c = search needs
+
+returns : tie.Need-returns Inv-loop μ-loop
+returns c =
+    let l = c .before .before .before .before .before .before .before .before .before .before .before .before .before .before .before .before .loop in
+    let e = write-dynamic-stop _ (l .left) (l .next) (l .frequencies) (l .buf) (l .w) _ _ _ (c .before .before .before .before .before .before .before .before .before .before .before .before .before .before .before .loop-test .taken) (c .before .before .before .before .before .before .before .before .before .before .before .before .before .before .next-seed .ensures) (c .before .before .before .before .before .before .before .before .before .before .before .below .ensures) (told-written _ _ _ _ (c .before .before .before .before .before .before .before .before .before .before .write-dynamic .ensures .0) (c .before .before .before .before .before .before .number .given .1)) (c .before .before .before .before .if1 .taken) ∙ l .inv .0 in
+    (c .before .before .ended .ensures .0 ∙ ap usedBytes e, c .before .before .ended .ensures .1 ∙ ap bytesAfter e)
+
+enum-known-writer : tie.Need-enum-known-writer Inv-loop μ-loop
+enum-known-writer c = search needs
+
+sub-left : tie.Need-sub-left Inv-loop μ-loop
+sub-left c = search needs
+
+loop-less : tie.Need-loop-less Inv-loop μ-loop
+loop-less c = search needs
+
+loop-again : tie.Need-loop-again Inv-loop μ-loop
+loop-again c =
+    let l = c .before .before .before .before .before .before .before .before .before .loop in
+    ⊎-elim
+    (λ w. rw (w .4) (write-dynamic-turn _ (l .left) (l .next) (l .frequencies) _ (l .buf) (l .w) _ _ _ (c .before .before .before .before .before .before .before .before .loop-test .taken) (c .before .before .before .before .before .before .before .next-seed .ensures) (c .before .before .before .before .below .ensures) (told-written _ _ _ _ (c .before .before .before .write-dynamic .ensures .0) (w .1 .given .1)) (c .before .before .before .write-dynamic .ensures .1) (w .3 .left) ∙ l .inv .0, search needs))
+    (λ w. rw (w .3) (write-dynamic-turn _ (l .left) (l .next) (l .frequencies) _ (l .buf) (l .w) _ _ _ (c .before .before .before .before .before .before .before .before .loop-test .taken) (c .before .before .before .before .before .before .before .next-seed .ensures) (c .before .before .before .before .below .ensures) (told-written _ _ _ _ (c .before .before .before .write-dynamic .ensures .0) (w .1 .given .1)) (c .before .before .before .write-dynamic .ensures .1) refl ∙ l .inv .0, search needs))
+    (c .match .came)
+
+ended-requires-2 : tie.Need-ended-requires-2 Inv-loop μ-loop
+ended-requires-2 c κs = search needs
+
+same-length-2 : tie.Need-same-length-2 Inv-loop μ-loop
+same-length-2 c = search needs
+
+returns-2 : tie.Need-returns-2 Inv-loop μ-loop
+returns-2 c =
+    let l = c .before .before .before .before .before .loop in
+    let e = write-dynamic-none _ (l .left) (l .next) (l .frequencies) (l .buf) (l .w) (c .before .before .before .before .loop-test .left) ∙ l .inv .0 in
+    (c .before .before .ended2 .ensures .0 ∙ ap usedBytes e, c .before .before .ended2 .ensures .1 ∙ ap bytesAfter e)
+
+pub coder-speed-write-dynamic-spec : {M : Type 1} → statement M
+coder-speed-write-dynamic-spec =
+    tie.close
+    (tie.spec
+    Inv-loop
+    μ-loop
+    fresh-histogram-requires
+    fresh-requires
+    loop-holds
+    next-seed-requires
+    below-requires
+    write-dynamic-requires
+    enum-known-number
+    ended-requires
+    same-length
+    returns
+    enum-known-writer
+    sub-left
+    loop-less
+    loop-again
+    ended-requires-2
+    same-length-2
+    returns-2)
