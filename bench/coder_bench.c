@@ -1,9 +1,9 @@
 /* Times the library's bit coder beside a plain C one, a port of the standard's Annex A.
 
-   Both write the same generated numbers, end, and read them back. The library reads twice:
-   judging the state it is handed each time, and trusting the one it made itself. Each time
-   taken is that of one call over all numbers, with the clock of the machine; the three take
-   turns, and the best of nine rounds counts. A call of the library starts from a fresh state
+   Both write the same generated numbers, end, and read them back; the library with its
+   reader for states that it made itself. Each time taken is that of one call over all
+   numbers, with the clock of the machine; the two take turns, and the best of nine rounds
+   counts. A call of the library starts from a fresh state
    and, of a dynamic context, from fresh frequencies; opening the port is outside the time
    taken. The buffers were written to before. The run ends where the two disagree in the bytes
    written or in the sum of the numbers read. */
@@ -17,11 +17,9 @@
 
 /* The library. Reading answers the sum of the numbers, writing the bytes used. */
 extern uint32_t coder_speed_read_static(const uint8_t *bytes, size_t bytes_len, uint32_t range,
-                                        uint32_t count, bool look);
-extern uint32_t coder_speed_read_dynamic(const uint8_t *bytes, size_t bytes_len, uint32_t count,
-                                         bool look);
-extern uint32_t coder_speed_read_plain(const uint8_t *bytes, size_t bytes_len, uint32_t count,
-                                       bool look);
+                                        uint32_t count);
+extern uint32_t coder_speed_read_dynamic(const uint8_t *bytes, size_t bytes_len, uint32_t count);
+extern uint32_t coder_speed_read_plain(const uint8_t *bytes, size_t bytes_len, uint32_t count);
 extern uint32_t coder_speed_write_static(uint8_t *buf, size_t buf_len, uint32_t range,
                                          uint32_t seed, uint32_t count);
 extern uint32_t coder_speed_write_dynamic(uint8_t *buf, size_t buf_len, uint32_t values,
@@ -77,23 +75,15 @@ static uint32_t library_write(const Job *job) {
     }
 }
 
-static uint32_t library_read(const Job *job, bool look) {
+static uint32_t library_read(const Job *job) {
     switch (job->kind) {
     case STATIC:
-        return coder_speed_read_static(library_bytes, library_used, job->bound, NUMBERS, look);
+        return coder_speed_read_static(library_bytes, library_used, job->bound, NUMBERS);
     case DYNAMIC:
-        return coder_speed_read_dynamic(library_bytes, library_used, NUMBERS, look);
+        return coder_speed_read_dynamic(library_bytes, library_used, NUMBERS);
     default:
-        return coder_speed_read_plain(library_bytes, library_used, NUMBERS, look);
+        return coder_speed_read_plain(library_bytes, library_used, NUMBERS);
     }
-}
-
-static uint32_t library_read_judged(const Job *job) {
-    return library_read(job, true);
-}
-
-static uint32_t library_read_inner(const Job *job) {
-    return library_read(job, false);
 }
 
 /* The port's. */
@@ -166,7 +156,7 @@ static void compare_bytes(const Job *job) {
 }
 
 typedef struct {
-    double port_write, write, port_read, judged, inner;  /* seconds */
+    double port_write, write, port_read, read;  /* seconds */
 } Times;
 
 static void run_round(const Job *job, uint32_t sum, Times *best) {
@@ -178,8 +168,7 @@ static void run_round(const Job *job, uint32_t sum, Times *best) {
     plain_reader_open(&port.reader, port.words, (port.used + 3) / 4);
     if (time_run(port_read, job, &best->port_read) != sum)
         stop(job, "the port reads other numbers than were written");
-    if (time_run(library_read_judged, job, &best->judged) != sum
-        || time_run(library_read_inner, job, &best->inner) != sum)
+    if (time_run(library_read, job, &best->read) != sum)
         stop(job, "the library reads other numbers than were written");
 }
 
@@ -188,19 +177,17 @@ static double rate(double seconds) {
 }
 
 static void run_job(const Job *job) {
-    Times best = {0, 0, 0, 0, 0};
+    Times best = {0, 0, 0, 0};
     uint32_t sum = sum_written(job);
     for (int i = 0; i < ROUNDS; i++) run_round(job, sum, &best);
-    printf("%-18s %8u %8.2f %7.2f %6.2f %9.2f %8.2f %7.2f %7.2f %6.2f\n", job->name,
-           (unsigned)port.used, rate(best.write), rate(best.port_write),
-           best.write / best.port_write, rate(best.judged), rate(best.inner),
-           rate(best.port_read), best.judged / best.port_read, best.inner / best.port_read);
+    printf("%-18s %8u %8.2f %7.2f %6.2f %9.2f %7.2f %6.2f\n", job->name, (unsigned)port.used,
+           rate(best.write), rate(best.port_write), best.write / best.port_write,
+           rate(best.read), rate(best.port_read), best.read / best.port_read);
 }
 
 int main(void) {
-    puts("                            write: millions a second      read: millions a second");
-    puts("numbers               bytes  library   plain  time*    judged    inner   plain"
-         " judged* inner*");
+    puts("                         write: millions a second     read: millions a second");
+    puts("numbers               bytes  library   plain  time*   library   plain  time*");
     for (size_t i = 0; i < sizeof jobs / sizeof *jobs; i++) run_job(&jobs[i]);
     puts("* time library / plain");
     return 0;

@@ -1,10 +1,11 @@
-// Loops that read up to count numbers from the fresh state and add them up. The first refusal ends them. What a read promises does
+// Loops that read up to count numbers from the fresh state, with the reader for such runs, and add them up. The first refusal ends them. What a read promises does
 // not rule out a refusal with number 0, which says the same as the value 0: hence the test of the number.
+ghost use mathlib.Core.Bool.{false};
 ghost use mathlib.Core.Path.{_≡_};
 ghost use Prim.Native.Nat.{_+_, _%_, _<_};
 ghost use Rattle.coder.specs.Histogram.{freshHistogram};
 ghost use Rattle.coder.specs.Interval.{fresh};
-ghost use Rattle.coder.specs.Reading.{readGiven, takeDynamic, takePlain, takeStatic, takenHistogram};
+ghost use Rattle.coder.specs.Reading.{takePlain, takeStatic};
 ghost use Rattle.coder_speed.specs.Loops.{readDynamicSum, readSum};
 use coder::histogram::fresh_histogram;
 use coder::interval::Coder;
@@ -18,45 +19,16 @@ fn plus(sum: u32, value: u32) -> u32
     ((sum as u64 + value as u64) % 0x100000000) as u32
 }
 
-// One number; where look is false the pending bits are not judged.
-fn one_static(s: Coder, bytes: &[u8], range: u32, look: bool) -> Read
-    ensures { λ r. ⌜ readGiven r ≡ takeStatic look range (now (bytes .entry)) s ⌝ }
-{
-    if look {
-        return s.read_static(bytes, range);
-    }
-    s.take_static(bytes, range)
-}
-
-fn one_dynamic(s: Coder, bytes: &[u8], frequencies: &mut [u32; 257], look: bool) -> Read
-    ensures { λ r. ⌜ readGiven r ≡ takeDynamic look (now (frequencies .entry)) (now (bytes .entry)) s ⌝ }
-    ensures { λ r. ⌜ now (frequencies .exit) ≡ takenHistogram look (now (frequencies .entry)) (now (bytes .entry)) s ⌝ }
-{
-    if look {
-        return s.read_dynamic(bytes, frequencies);
-    }
-    s.take_dynamic(bytes, frequencies)
-}
-
-fn one_plain(s: Coder, bytes: &[u8], look: bool) -> Read
-    ensures { λ r. ⌜ readGiven r ≡ takePlain look 4 (now (bytes .entry)) s ⌝ }
-{
-    if look {
-        return s.read_plain(bytes, Width::U32);
-    }
-    s.take_plain(bytes, Width::U32)
-}
-
 // Numbers in a static range.
 #[no_mangle]
-pub extern "C" fn coder_speed_read_static(bytes: &[u8], range: u32, count: u32, look: bool) -> u32
-    ensures { λ r. ⌜ r ≡ readSum (takeStatic look range (now (bytes .entry))) count fresh 0 ⌝ }
+pub extern "C" fn coder_speed_read_static(bytes: &[u8], range: u32, count: u32) -> u32
+    ensures { λ r. ⌜ r ≡ readSum (takeStatic false range (now (bytes .entry))) count fresh 0 ⌝ }
 {
     let mut s = Coder::fresh();
     let mut sum = 0;
     let mut left = count;
     while 0 < left {
-        match one_static(s, bytes, range, look) {
+        match s.take_static(bytes, range) {
             Read::Refused(number, state) => {
                 if number != 0 {
                     return sum;
@@ -75,15 +47,15 @@ pub extern "C" fn coder_speed_read_static(bytes: &[u8], range: u32, count: u32, 
 
 // Numbers in one dynamic context.
 #[no_mangle]
-pub extern "C" fn coder_speed_read_dynamic(bytes: &[u8], count: u32, look: bool) -> u32
-    ensures { λ r. ⌜ r ≡ readDynamicSum look (now (bytes .entry)) count freshHistogram fresh 0 ⌝ }
+pub extern "C" fn coder_speed_read_dynamic(bytes: &[u8], count: u32) -> u32
+    ensures { λ r. ⌜ r ≡ readDynamicSum false (now (bytes .entry)) count freshHistogram fresh 0 ⌝ }
 {
     let mut frequencies = fresh_histogram();
     let mut s = Coder::fresh();
     let mut sum = 0;
     let mut left = count;
     while 0 < left {
-        match one_dynamic(s, bytes, &mut frequencies, look) {
+        match s.take_dynamic(bytes, &mut frequencies) {
             Read::Refused(number, state) => {
                 if number != 0 {
                     return sum;
@@ -102,14 +74,14 @@ pub extern "C" fn coder_speed_read_dynamic(bytes: &[u8], count: u32, look: bool)
 
 // Plain values of four bytes.
 #[no_mangle]
-pub extern "C" fn coder_speed_read_plain(bytes: &[u8], count: u32, look: bool) -> u32
-    ensures { λ r. ⌜ r ≡ readSum (takePlain look 4 (now (bytes .entry))) count fresh 0 ⌝ }
+pub extern "C" fn coder_speed_read_plain(bytes: &[u8], count: u32) -> u32
+    ensures { λ r. ⌜ r ≡ readSum (takePlain false 4 (now (bytes .entry))) count fresh 0 ⌝ }
 {
     let mut s = Coder::fresh();
     let mut sum = 0;
     let mut left = count;
     while 0 < left {
-        match one_plain(s, bytes, look) {
+        match s.take_plain(bytes, Width::U32) {
             Read::Refused(number, state) => {
                 if number != 0 {
                     return sum;

@@ -2,6 +2,7 @@
 use borrow.Author.Needs.{needs}
 use native.Mathlib.Omega.{arith}
 use mathlib.Core.Logic.{⊎-elim}
+use mathlib.Core.Bool.{false}
 use mathlib.Core.Path.{_≡_, ap, refl, _∙_}
 use Prim.Native.Nat.{_<_}
 use Rattle.coder.specs.Histogram.{freshHistogram}
@@ -13,10 +14,10 @@ use Rattle.coder_speed.proofs.reading.coder_speed_read_dynamic.Statemen
 use Rattle.coder_speed.proofs.reading.coder_speed_read_dynamic.Tie as tie
 
 abbrev Inv-loop : tie.InvT-loop
-Inv-loop bytes count look frequencies₀ s₀ sum₀ left₀ frequencies s sum left = (readDynamicSum look bytes left frequencies s sum ≡ readDynamicSum look bytes count freshHistogram fresh 0) × (sum < 0x100000000)
+Inv-loop bytes count frequencies₀ s₀ sum₀ left₀ frequencies s sum left = (readDynamicSum false bytes left frequencies s sum ≡ readDynamicSum false bytes count freshHistogram fresh 0) × (sum < 0x100000000)
 
 abbrev μ-loop : tie.MeasureT-loop
-μ-loop bytes count look frequencies₀ s₀ sum₀ left₀ frequencies s sum left = left
+μ-loop bytes count frequencies₀ s₀ sum₀ left₀ frequencies s sum left = left
 
 fresh-histogram-requires : tie.Need-fresh-histogram-requires Inv-loop μ-loop
 fresh-histogram-requires c κs = search needs
@@ -27,8 +28,8 @@ fresh-requires c κs = search needs
 loop-holds : tie.Need-loop-holds Inv-loop μ-loop
 loop-holds c = (rw (c .fresh .ensures, c .before .fresh-histogram .ensures) refl, omega arith)
 
-one-dynamic-requires : tie.Need-one-dynamic-requires Inv-loop μ-loop
-one-dynamic-requires c κs = search needs
+take-dynamic-requires : tie.Need-take-dynamic-requires Inv-loop μ-loop
+take-dynamic-requires c κs = search needs
 
 enum-known-number : tie.Need-enum-known-number Inv-loop μ-loop
 enum-known-number c = search needs
@@ -36,7 +37,7 @@ enum-known-number c = search needs
 returns : tie.Need-returns Inv-loop μ-loop
 returns c =
     let l = c .before .before .before .before .before .before .before .loop in
-    dynamic-stop _ _ (l .left) (l .frequencies) (l .s) (l .sum) _ (told readGiven (c .before .before .before .before .one-dynamic .ensures .0) (c .before .before .number .given .1)) (c .if1 .taken) ∙ l .inv .0
+    dynamic-stop _ _ (l .left) (l .frequencies) (l .s) (l .sum) _ (told readGiven (c .before .before .before .before .take-dynamic .ensures .0) (c .before .before .number .given .1)) (c .if1 .taken) ∙ l .inv .0
 
 enum-known-value : tie.Need-enum-known-value Inv-loop μ-loop
 enum-known-value c = search needs
@@ -54,7 +55,7 @@ loop-again : tie.Need-loop-again Inv-loop μ-loop
 loop-again c =
     let l = c .before .before .before .before .loop in
     let left = c .before .before .before .loop-test .taken in
-    let e = c .before .one-dynamic .ensures in
+    let e = c .before .take-dynamic .ensures in
     ⊎-elim
     (λ w. rw (w .4, w .5) (ap (readDynamicSum _ _ _ _ _) (with-none (l .sum) (l .inv .1)) ∙ dynamic-turn _ _ (l .left) (l .frequencies) _ (l .s) (l .sum) _ left (told readGiven (e .0) (w .1 .given .1)) (e .1) (w .3 .left) ∙ l .inv .0, l .inv .1))
     (λ w. rw (w .4, w .5) (rw (w .3 .ensures .0) (dynamic-turn _ _ (l .left) (l .frequencies) _ (l .s) (l .sum) _ left (told readGiven (e .0) (w .1 .given .1)) (e .1) refl ∙ l .inv .0), w .3 .ensures .1))
@@ -72,7 +73,7 @@ coder-speed-read-dynamic-spec =
     fresh-histogram-requires
     fresh-requires
     loop-holds
-    one-dynamic-requires
+    take-dynamic-requires
     enum-known-number
     returns
     enum-known-value
