@@ -67,7 +67,7 @@ back look d l w contextGood valueGood compresses spans codable e h =
 
 -- what it has to give back
 abbrev pub given : ℕ → WriteCall → ReadCall
-given v c = record { result = record { number = 0; value = v; state = c .result .writer .coder }; histograms = c .histograms }
+given v c = record { result = record { number = 0; done = true; value = v; state = c .result .writer .coder }; histograms = c .histograms }
 
 -- The reader's call in a context gives back the number that the writer's call in it was handed, and the data continue what was there before.
 pub call-back : (look : Bool) (d l : List ℕ) (w : Writer) (hs : Histograms) (c : Context) (v : ℕ) → Typed c v

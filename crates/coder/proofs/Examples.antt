@@ -29,7 +29,7 @@ bytes n = replicate n 0xFF
 
 -- a compressed value's call that is done
 abbrev done : Coder → List ℕ → Write
-done s l = record { number = 0; writer = record { coder = s; compressed = true }; bytes = l }
+done s l = record { number = 0; done = true; writer = record { coder = s; compressed = true }; bytes = l }
 
 abbrev zeroes : Number
 zeroes = record { context = dynamic 0; value = 0 }

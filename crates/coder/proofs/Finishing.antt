@@ -25,7 +25,7 @@ use Rattle.coder.specs.declared.write.Written as written
 -- ---- an end by its room
 
 module _ (l : List ℕ) (w : Writer) (next : Coder) (bits : List ℕ) where
-  as-refused : fits next (length l) ≡ false → record { number = noRoom; used = 0; writer = w; bytes = l } ≡ endAs (roomNumber l next) l w next bits
+  as-refused : fits next (length l) ≡ false → record { number = noRoom; done = false; used = 0; writer = w; bytes = l } ≡ endAs (roomNumber l next) l w next bits
   unfolding endAs
   as-refused full = rw full
 
@@ -46,7 +46,7 @@ low-stored s l l₁ l₂ l₃ pad top word =
     rw (word, top, pad, putBits-append (settledBits s) (bitsOf 15 (s .low)) (padded l (s .settled)) (s .settled), place)
 
 module _ (l : List ℕ) (w : Writer) (t : Coder) (next : t ≡ lowState (w .coder)) where
-  pub low-refused : fits t (length l) ≡ false → record { number = noRoom; used = 0; writer = w; bytes = l } ≡ endsLow l w
+  pub low-refused : fits t (length l) ≡ false → record { number = noRoom; done = false; used = 0; writer = w; bytes = l } ≡ endsLow l w
   low-refused full = as-refused l w _ _ (rw next at full)
 
   pub low-within : fits t (length l) ≡ true → w .coder .settled + 1 + w .coder .pending + 15 ≤ 8 * length l
@@ -58,7 +58,7 @@ module _ (l : List ℕ) (w : Writer) (t : Coder) (next : t ≡ lowState (w .code
   pub low-done : (used : ℕ) (l₁ l₂ l₃ : List ℕ) → fits t (length l) ≡ true → used ≡ bytesOf (t .settled) → l₁ ≡ padded l (w .coder .settled)
       → l₂ ≡ putBits l₁ (w .coder .settled) (settledBits (w .coder))
       → l₃ ≡ putBits l₂ (w .coder .settled + 1 + w .coder .pending) (bitsOf 15 (w .coder .low))
-      → record { number = 0; used = used; writer = record { coder = t; compressed = w .compressed }; bytes = l₃ } ≡ endsLow l w
+      → record { number = 0; done = true; used = used; writer = record { coder = t; compressed = w .compressed }; bytes = l₃ } ≡ endsLow l w
   unfolding endAs
   low-done used l₁ l₂ l₃ room size pad top word =
       as-done l w _ _ _ (rw next at room) (rw (size, next, low-stored (w .coder) l l₁ l₂ l₃ pad top word))
@@ -72,7 +72,7 @@ endsZero l w =
 
 -- a write's answer as that of an end
 abbrev asEnd : ℕ → Write → End
-asEnd used a = record { number = a .number; used = used; writer = a .writer; bytes = a .bytes }
+asEnd used a = record { number = a .number; done = a .done; used = used; writer = a .writer; bytes = a .bytes }
 
 zero-led : byteSpan 0 ∷ plainSpans 3 0 ≡ plainSpans 4 0
 unfolding plainSpans
@@ -94,7 +94,7 @@ module _
     zeros-grants = rw (lead, zero-led) at grants
 
     pub zero-refused : (n : ℕ) (w′ : Writer) → r ≡ written.the-variants.Refused n w′
-        → record { number = n; used = 0; writer = w′; bytes = l′ } ≡ endsZero l w
+        → record { number = n; done = false; used = 0; writer = w′; bytes = l′ } ≡ endsZero l w
     unfolding write
     zero-refused n w′ told =
         let full : fits (afterSymbols (w .coder) (plainSpans 4 0)) (length l) ≡ false = sym (rw told at zeros-grants) in
@@ -104,7 +104,7 @@ module _
       zeros-room : fits (afterSymbols (w .coder) (plainSpans 4 0)) (length l) ≡ true
       zeros-room = sym (rw told at zeros-grants)
 
-      zeros-done : record { number = 0; writer = w′; bytes = l′ } ≡ write 0 l w false (plainSpans 4 0)
+      zeros-done : record { number = 0; done = true; writer = w′; bytes = l′ } ≡ write 0 l w false (plainSpans 4 0)
       zeros-done = rw (told, zeros-room) at zeros-wrote
 
       zeros-after : w′ .coder ≡ afterSymbols (w .coder) (plainSpans 4 0)
@@ -114,23 +114,23 @@ module _
       pub zero-small : Holds l (w .coder) → w′ .coder .settled ≤ 8 * 0x1000000
       zero-small h = let g : Holds l (w′ .coder) = holds (w′ .coder) l (h .small) (rw zeros-after zeros-room) in omega arith
 
-      pub zero-done : (used : ℕ) → used ≡ bytesOf (w′ .coder .settled) → record { number = 0; used = used; writer = w′; bytes = l′ } ≡ endsZero l w
+      pub zero-done : (used : ℕ) → used ≡ bytesOf (w′ .coder .settled) → record { number = 0; done = true; used = used; writer = w′; bytes = l′ } ≡ endsZero l w
       unfolding write endAs
       zero-done used size = as-done l w _ _ _ zeros-room (ap (asEnd used) zeros-done ∙ rw (size, zeros-after, or-false))
 
 -- ---- the whole end
 
 end-refuses : {n m : ℕ} (l : List ℕ) (w : Writer) (next : Coder) (bits : List ℕ) → (n ≡ 0 → ⊥) → n ≡ m
-    → record { number = n; used = 0; writer = w; bytes = l } ≡ endAs m l w next bits
+    → record { number = n; done = false; used = 0; writer = w; bytes = l } ≡ endAs m l w next bits
 end-refuses {n} {m} l w next bits some same = go n some ∙ ap (λ (k : ℕ). endAs k l w next bits) same
   where
-    go : (k : ℕ) → (k ≡ 0 → ⊥) → record { number = k; used = 0; writer = w; bytes = l } ≡ endAs k l w next bits
+    go : (k : ℕ) → (k ≡ 0 → ⊥) → record { number = k; done = false; used = 0; writer = w; bytes = l } ≡ endAs k l w next bits
     go zero other = absurd (other refl)
     go (suc k) other = unfold endAs in refl
 
 module _ (l : List ℕ) (w : Writer) (fault : ℕ) (judged : fault ≡ writeFault (w .coder) (length l)) where
   -- a fault is the answer
-  pub end-refused : (fault ≡ 0 → ⊥) → record { number = fault; used = 0; writer = w; bytes = l } ≡ end l w
+  pub end-refused : (fault ≡ 0 → ⊥) → record { number = fault; done = false; used = 0; writer = w; bytes = l } ≡ end l w
   unfolding end endNumber
   end-refused some = end-refuses l w _ _ some (number-fault l (w .coder) true true _ fault judged some)
 
@@ -158,7 +158,7 @@ module _ (l : List ℕ) (w : Writer) (fault : ℕ) (judged : fault ≡ writeFaul
     finish-pending r same some ends = end-judged r false _ _ same (end-low (w .coder) (zeros-pending (w .coder) some)) ends
 
     pub finish-none : (used : ℕ) (l′ : List ℕ) → w .compressed ≡ false → w .coder .low ≡ 0 → w .coder .pending ≡ 0 → used ≡ bytesOf (w .coder .settled)
-        → l′ ≡ padded l (w .coder .settled) → record { number = 0; used = used; writer = w; bytes = l′ } ≡ end l w
+        → l′ ≡ padded l (w .coder .settled) → record { number = 0; done = true; used = used; writer = w; bytes = l′ } ≡ end l w
     unfolding endAs storeBits putBits
     finish-none used l′ same low pending size pad =
         end-judged _ false (w .coder) [] same (end-none (w .coder) (end-writable .limits) low pending)

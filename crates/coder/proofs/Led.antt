@@ -37,13 +37,13 @@ module _ (w : Writer) (l : List ℕ) (compresses : Bool) (spans : List Span) (t 
   pub led-fits : (b : Bool) → fits t (length l) ≡ b → b ≡ fits (afterSymbols (w .coder) spans) (length l)
   led-fits b e = rw (← next) (sym e)
 
-  pub led-refused : fits t (length l) ≡ false → record { number = noRoom; writer = w; bytes = l } ≡ write (roomNumber l (afterSymbols (w .coder) spans)) l w compresses spans
+  pub led-refused : fits t (length l) ≡ false → record { number = noRoom; done = false; writer = w; bytes = l } ≡ write (roomNumber l (afterSymbols (w .coder) spans)) l w compresses spans
   unfolding write
   led-refused no-room = rw (← next, no-room)
 
   pub led-done : (flag : Bool) (l′ l″ : List ℕ) → fits t (length l) ≡ true → l′ ≡ padded l (w .coder .settled)
       → l″ ≡ putBits l′ (w .coder .settled) (symbolsBits (w .coder) spans) → flag ≡ (w .compressed || compresses)
-      → record { number = 0; writer = record { coder = t; compressed = flag }; bytes = l″ } ≡ write (roomNumber l (afterSymbols (w .coder) spans)) l w compresses spans
+      → record { number = 0; done = true; writer = record { coder = t; compressed = flag }; bytes = l″ } ≡ write (roomNumber l (afterSymbols (w .coder) spans)) l w compresses spans
   unfolding write storeBits
   led-done flag l′ l″ fit pad put set = rw (put, pad, set, ← next, fit, next) refl
 
@@ -51,11 +51,11 @@ module _ (w : Writer) (l : List ℕ) (compresses : Bool) (spans : List Span) (t 
 
 -- a call that is refused gives back the state that was handed in, and leaves the buffer
 pub write-refused : {n m : ℕ} {l : List ℕ} {w : Writer} (compresses : Bool) (spans : List Span) → (n ≡ 0 → ⊥) → n ≡ m
-    → record { number = n; writer = w; bytes = l } ≡ write m l w compresses spans
+    → record { number = n; done = false; writer = w; bytes = l } ≡ write m l w compresses spans
 unfolding write
 write-refused {n} {m} {l} {w} compresses spans some same = go n some ∙ ap (λ (k : ℕ). write k l w compresses spans) same
   where
-    go : (k : ℕ) → (k ≡ 0 → ⊥) → record { number = k; writer = w; bytes = l } ≡ write k l w compresses spans
+    go : (k : ℕ) → (k ≡ 0 → ⊥) → record { number = k; done = false; writer = w; bytes = l } ≡ write k l w compresses spans
     go zero other = absurd (other refl)
     go (suc k) other = refl
 

@@ -97,11 +97,11 @@ module _ (look : Bool) (d : List ℕ) (s : Coder) (n : ℕ) (judged : n ≡ read
 -- ---- a whole call
 
 -- a call that is refused gives back the state that was handed in
-pub taken-refused : {n m : ℕ} {s : Coder} (found : Found) → (n ≡ 0 → ⊥) → n ≡ m → record { number = n; value = 0; state = s } ≡ taken m found s
+pub taken-refused : {n m : ℕ} {s : Coder} (found : Found) → (n ≡ 0 → ⊥) → n ≡ m → record { number = n; done = false; value = 0; state = s } ≡ taken m found s
 unfolding taken
 taken-refused {n} {m} {s} found some same = go n some ∙ ap (λ (k : ℕ). taken k found s) same
   where
-    go : (k : ℕ) → (k ≡ 0 → ⊥) → record { number = k; value = 0; state = s } ≡ taken k found s
+    go : (k : ℕ) → (k ≡ 0 → ⊥) → record { number = k; done = false; value = 0; state = s } ≡ taken k found s
     go zero other = absurd (other refl)
     go (suc k) other = refl
 

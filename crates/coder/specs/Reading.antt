@@ -13,20 +13,22 @@ use Rattle.fields.specs.Limits.{largestFile}
 use Rattle.fields.specs.Numbers.{badState, outOfRange, overLimit, truncated}
 use lib.Dec.{leb, ltb}
 use lib.ListN.{length}
-use mathlib.Core.Bool.{Bool, true, _&&_, _||_, not}
+use mathlib.Core.Bool.{Bool, true, false, _&&_, _||_, not}
 use mathlib.Core.List.{List}
 use Rattle.coder.specs.declared.read.Read as read
 use Rattle.coder.specs.declared.read.Width as width
 
+-- 01's number, and whether the answer is done: just where the number is 0
 pub record Taken : Type 0 where
   pub number : ℕ
+  pub done : Bool
   pub value : ℕ
   pub state : Coder
 
 -- what an answer says
 abbrev pub readGiven : Read → Taken
-readGiven (read.the-variants.Got v s) = record { number = 0; value = v; state = s }
-readGiven (read.the-variants.Refused n s) = record { number = n; value = 0; state = s }
+readGiven (read.the-variants.Got v s) = record { number = 0; done = true; value = v; state = s }
+readGiven (read.the-variants.Refused n s) = record { number = n; done = false; value = 0; state = s }
 
 -- what every read judges first: the size of the data (9), then the state (18)
 unfoldable pub readFault : Bool → List ℕ → Coder → ℕ
@@ -42,8 +44,8 @@ readNumber look d s contextGood rangeGood settled valueGood =
 
 -- "a refusal gives back every other result 0, and the state that was handed in"
 unfoldable pub taken : ℕ → Found → Coder → Taken
-taken zero found s = record { number = 0; value = found .value; state = found .state }
-taken (suc n) found s = record { number = suc n; value = 0; state = s }
+taken zero found s = record { number = 0; done = true; value = found .value; state = found .state }
+taken (suc n) found s = record { number = suc n; done = false; value = 0; state = s }
 
 -- the bytes of a plain value
 abbrev pub bytesIn : Width → ℕ

@@ -5,7 +5,7 @@ use Rattle.coder.specs.Interval.{Coder}
 use Rattle.coder.specs.Reading.{Taken, takeDynamic, takePlain, takeStatic, takenHistogram}
 use Rattle.coder.specs.Writing.{Write, Writer, writeDynamic, writePlain, writeStatic, writtenHistogram}
 use lib.ListN.{getD, set}
-use mathlib.Core.Bool.{Bool}
+use mathlib.Core.Bool.{Bool, true}
 use mathlib.Core.List.{List, [], _∷_}
 use mathlib.Core.Path.{_≡_}
 
@@ -82,7 +82,7 @@ unfoldable pub readBack : List Number → List WriteCall → List ReadCall
 readBack [] cs = []
 readBack (n ∷ ns) [] = []
 readBack (n ∷ ns) (c ∷ cs) =
-    record { result = record { number = 0; value = n .value; state = c .result .writer .coder }; histograms = c .histograms } ∷ readBack ns cs
+    record { result = record { number = 0; done = true; value = n .value; state = c .result .writer .coder }; histograms = c .histograms } ∷ readBack ns cs
 
 -- a number is one of its call's type
 abbrev pub Typed : Context → ℕ → Type 0

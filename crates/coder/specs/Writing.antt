@@ -23,15 +23,17 @@ use Rattle.coder.specs.declared.write.Written as written
 abbrev pub freshWriter : Writer
 freshWriter = record { coder = fresh; compressed = false }
 
+-- 01's number, and whether the answer is done: just where the number is 0
 pub record Write : Type 0 where
   pub number : ℕ
+  pub done : Bool
   pub writer : Writer
   pub bytes : List ℕ
 
 -- what an answer says, beside the bytes that are then in the buffer
 abbrev pub writtenGiven : Written → List ℕ → Write
-writtenGiven (written.the-variants.Done w) l = record { number = 0; writer = w; bytes = l }
-writtenGiven (written.the-variants.Refused n w) l = record { number = n; writer = w; bytes = l }
+writtenGiven (written.the-variants.Done w) l = record { number = 0; done = true; writer = w; bytes = l }
+writtenGiven (written.the-variants.Refused n w) l = record { number = n; done = false; writer = w; bytes = l }
 
 -- what every write judges first: the buffer's size (9), then the state (18)
 unfoldable pub writeFault : Coder → ℕ → ℕ
@@ -48,10 +50,11 @@ unfoldable pub write : ℕ → List ℕ → Writer → Bool → List Span → Wr
 write zero l w compresses spans =
     record {
       number = 0;
+      done = true;
       writer = record { coder = afterSymbols (w .coder) spans; compressed = w .compressed || compresses };
       bytes = storeBits l (w .coder .settled) (symbolsBits (w .coder) spans);
     }
-write (suc n) l w compresses spans = record { number = suc n; writer = w; bytes = l }
+write (suc n) l w compresses spans = record { number = suc n; done = false; writer = w; bytes = l }
 
 -- n plain bytes
 unfoldable pub writePlain : ℕ → List ℕ → Writer → ℕ → Write
@@ -80,13 +83,14 @@ writtenHistogram h l w v = kept (dynamicNumber h l w v) (dynamicAfter h v) h
 -- the end: also the number of bytes that the settled bits take
 pub record End : Type 0 where
   pub number : ℕ
+  pub done : Bool
   pub used : ℕ
   pub writer : Writer
   pub bytes : List ℕ
 
 abbrev pub endedGiven : Ended → List ℕ → End
-endedGiven (ended.the-variants.Done used w) l = record { number = 0; used = used; writer = w; bytes = l }
-endedGiven (ended.the-variants.Refused n w) l = record { number = n; used = 0; writer = w; bytes = l }
+endedGiven (ended.the-variants.Done used w) l = record { number = 0; done = true; used = used; writer = w; bytes = l }
+endedGiven (ended.the-variants.Refused n w) l = record { number = n; done = false; used = 0; writer = w; bytes = l }
 
 unfoldable pub endNumber : List ℕ → Writer → ℕ
 endNumber l w = writeNumber l (w .coder) true true (endState (w .compressed) (w .coder))
@@ -96,11 +100,12 @@ unfoldable pub endAs : ℕ → List ℕ → Writer → Coder → List ℕ → En
 endAs zero l w next bits =
     record {
       number = 0;
+      done = true;
       used = bytesOf (next .settled);
       writer = record { coder = next; compressed = w .compressed };
       bytes = storeBits l (w .coder .settled) bits;
     }
-endAs (suc n) l w next bits = record { number = suc n; used = 0; writer = w; bytes = l }
+endAs (suc n) l w next bits = record { number = suc n; done = false; used = 0; writer = w; bytes = l }
 
 unfoldable pub end : List ℕ → Writer → End
 end l w = endAs (endNumber l w) l w (endState (w .compressed) (w .coder)) (endBits (w .compressed) (w .coder))
