@@ -237,14 +237,23 @@ def read_plain(state, data, count):
     return _read(_read_plain, state, data, count, True)
 
 
-# The inner reader: the same, but it does not look whether the pending bits are inverted.
+# The inner reader: the same, but it does not look whether the pending bits are inverted,
+# and a dynamic context comes with the total that its caller keeps.
+
+class Counted:
+    """A dynamic context's weights and their total; a granted call changes both."""
+
+    def __init__(self, weights, total=None):
+        self.weights = weights
+        self.total = sum(weights) % 2 ** 32 if total is None else total
+
 
 def take_static(state, data, static_range):
     return _read(_read_static, state, data, static_range, False)
 
 
-def take_dynamic(state, data, histogram):
-    return _read(_read_dynamic, state, data, histogram, False)
+def take_dynamic(state, data, counted):
+    return _read(_take_dynamic, state, data, counted, False)
 
 
 def take_plain(state, data, count):
@@ -331,6 +340,38 @@ def _read_dynamic(state, data, histogram):
     return value, after
 
 
+def _take_dynamic(state, data, counted):
+    """A known value is read by the total as it is given; for all else it must be the sum."""
+    starts = [0, *accumulate(counted.weights)]
+    symbol = _known_symbol(state, data, starts, counted.total)
+    if symbol is None:
+        return _take_summed(state, data, counted)
+    after = _part(state, starts[symbol], starts[symbol + 1], counted.total)
+    _judge_settled(after, data)
+    counted.weights[symbol] += 1
+    counted.total += 1
+    return symbol - 1, after
+
+
+def _take_summed(state, data, counted):
+    if sum(counted.weights) != counted.total:
+        raise Refused(NOT_WELL_FORMED)
+    value, after = _read_dynamic(state, data, counted.weights)
+    counted.total = sum(counted.weights)
+    return value, after
+
+
+def _known_symbol(state, data, starts, total):
+    """The symbol of a value that was seen, where its part ends within the total. None if
+    there is no such, if escape has no weight, or if weights are halved at this total."""
+    if starts[1] == 0 or not 0 < total < MOST_WEIGHT:
+        return None
+    symbol = bisect_right(starts, _place(state, data, total)) - 1
+    if symbol == ESCAPE or symbol == SYMBOLS or starts[symbol + 1] > total:
+        return None
+    return symbol
+
+
 def _read_plain(state, data, count):
     value, after = _next_plain(state, data, count)
     _judge_settled(after, data)
@@ -350,15 +391,22 @@ def _next_symbol(state, data, starts):
     and the total last.
 
     The part of a symbol begins at width * start // total, from low on. That is at most the
-    code's distance from low when start is at most `most`: the last such symbol is it.
+    code's distance from low when start is at most the place: the last such symbol is it.
     """
     total = starts[-1]
+    symbol = bisect_right(starts, _place(state, data, total)) - 1
+    return symbol, _part(state, starts[symbol], starts[symbol + 1], total)
+
+
+def _place(state, data, total):
     width = state.high - state.low + 1
-    most = ((_code(state, data) - state.low + 1) * total - 1) // width
-    symbol = bisect_right(starts, most) - 1
-    low = state.low + width * starts[symbol] // total
-    high = state.low + width * starts[symbol + 1] // total - 1
-    return symbol, _moved(state, low, high)
+    return ((_code(state, data) - state.low + 1) * total - 1) // width
+
+
+def _part(state, begin, end, total):
+    """The state after the part of the total from `begin` to `end`."""
+    width = state.high - state.low + 1
+    return _moved(state, state.low + width * begin // total, state.low + width * end // total - 1)
 
 
 def _moved(state, low, high):

@@ -9,7 +9,7 @@ import struct
 from typing import NamedTuple
 
 from u3d import coder
-from u3d.coder import DONE, State, Writer
+from u3d.coder import DONE, Counted, State, Writer
 
 ROOM = 4096
 PROGRAM_LIMIT = 64 * 1024
@@ -109,8 +109,13 @@ def get_plain(count, *by_hand, more=0):
 
 
 def inner(call):
-    """The same read by the inner reader."""
+    """The same read by the inner reader, a dynamic one with the total that is the sum."""
     return call._replace(op=call.op + INNER)
+
+
+def take_dynamic(histogram, total, *by_hand, more=0):
+    """With a total of the caller's; the one after the call stands last in the answer."""
+    return Call(TAKE_DYNAMIC, histogram, total, 1, more, by_hand=by_hand)
 
 
 def show_bytes(count, *by_hand):
@@ -175,6 +180,8 @@ class Machine:
         self._rebase()
 
     def _operand(self, call):
+        if call.op == TAKE_DYNAMIC:
+            return Counted(self.histograms[call.a], call.b if call.c == 1 else None)
         return self.histograms[call.a] if call.op in DYNAMIC else call.a
 
     def _put(self, call):
@@ -199,14 +206,15 @@ class Machine:
         return ["end", number, used, *_writer_fields(self.writer)]
 
     def _get(self, call):
-        total = 0
-        lent = bytes(self.buffer[:self.length])
+        values = 0
+        lent, operand = bytes(self.buffer[:self.length]), self._operand(call)
         for _ in range(call.d + 1):
-            number, value, self.reader = READS[call.op](self.reader, lent, self._operand(call))
-            total += value
+            number, value, self.reader = READS[call.op](self.reader, lent, operand)
+            values += value
             if number != DONE:
                 break
-        return ["read", number, value, *self.reader, total % 2 ** 32]
+        counted = [operand.total] if call.op == TAKE_DYNAMIC else []
+        return ["read", number, value, *self.reader, values % 2 ** 32, *counted]
 
     def read_back(self):
         """The values written since `base` must be found again, by both readers."""
@@ -220,8 +228,9 @@ class Machine:
     def _read_back(self, data, step):
         writer, histograms = self.base
         state, histograms = writer.state, [list(weights) for weights in histograms]
+        contexts = [Counted(weights) for weights in histograms] if step == INNER else histograms
         for op, operand, value in self.written:
-            given = histograms[operand] if op == GET_DYNAMIC else operand
+            given = contexts[operand] if op == GET_DYNAMIC else operand
             number, found, state = READS[op + step](state, data, given)
             if (number, found) != (DONE, value):
                 raise Differs("written %d, read back %d (%d)" % (value, found, number))

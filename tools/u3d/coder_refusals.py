@@ -6,7 +6,8 @@ As in coder_files, answers worked out by hand stand beside their calls.
 from u3d.coder import TOP
 from u3d.coder_calls import (
     PUT_DYNAMIC, TAKE_STATIC, Machine, byte, end, get_dynamic, get_plain, get_static, inner, length,
-    put_dynamic, put_plain, put_static, reader_at, show_bytes, show_weights, start, weight, writer_at)
+    put_dynamic, put_plain, put_static, reader_at, show_bytes, show_weights, start,
+    take_dynamic, weight, writer_at)
 from u3d.coder_files import FRESH, HUGE, Case, reads_of, shown, used_by, weights_of
 
 # Each (low, high) breaks one rule of the form.
@@ -117,6 +118,65 @@ def bad_histograms():
     return calls
 
 
+def take_at(weights, first_byte, total, *by_hand):
+    """One call of the inner reader; the first bits of the data tell the place in the total."""
+    return [start(4), *weights_of(weights, 2), byte(0, first_byte), take_dynamic(2, total, *by_hand)]
+
+
+def taken_at(weights, first_byte, total, bits, raised):
+    """Value 0 is done, and settles so many bits."""
+    return take_at(weights, first_byte, total, 0, 0, 0, TOP, 0, bits, 0, total + 1) + [
+        show_weights(2, *raised)]
+
+
+def not_taken_at(weights, first_byte, total):
+    """18, which leaves the total and the weights."""
+    return take_at(weights, first_byte, total, 18, 0, *FRESH, 0, total) + [
+        show_weights(2, *shown(weights))]
+
+
+def other_totals():
+    """A total that is not the sum: taken where a known value's part ends within it."""
+    two, three = [(0, 1), (1, 1)], [(0, 1), (1, 1), (2, 2)]
+    wide = [(0, 1), (1, 1), (9, HUGE), (256, HUGE)]
+    calls = []
+    # A fresh context: its escape wants the sum.
+    for total in (0, 2, 0x1FFE, 0x1FFF, 0x2000, HUGE):
+        calls += not_taken_at([(0, 1)], 7, total)
+    calls += take_at([(0, 1)], 7, 1, 0, 7, 0, TOP, 0, 32, 7, 3) + [show_weights(2, "0:2", "8:1")]
+    # Too large: value 0 has the second quarter, the upper half is nobody's.
+    calls += taken_at(two, 0x02, 4, 2, ["0:1", "1:2"])
+    calls += not_taken_at(two, 0x00, 4) + not_taken_at(two, 0x01, 4) + not_taken_at(two, 0x03, 4)
+    # Too small: value 0 has the upper half, or the middle third; value 1 passes the end.
+    calls += taken_at(three, 0x01, 2, 1, ["0:1", "1:2", "2:2"])
+    calls += take_at(three, 0x06, 3, 0, 0, 0x2AAA, 0xD553, 1, 0, 0, 4)
+    calls += not_taken_at(three, 0x00, 2) + not_taken_at(three, 0x03, 3)
+    # What is not looked at may be anything; a sum that wraps at 2^32 is not the total.
+    calls += taken_at(wide, 0x01, 2, 1, ["0:1", "1:2", "9:%d" % HUGE, "256:%d" % HUGE])
+    calls += not_taken_at(wide, 0x00, 2) + not_taken_at([(0, 1), (1, HUGE)], 0x03, 5)
+    return calls + not_taken_at([(0, HUGE), (1, 2)], 0x00, 1)
+
+
+def total_limits():
+    """Around 0x1FFF (8191), without a weight of escape, and what is judged before and after."""
+    full, less, four = [(0, 2), (1, 8189)], [(0, 2), (1, 8188)], [(0, 1), (1, 1), (2, 1), (3, 1)]
+    calls = [*take_at(full, 0x03, 8191, 0, 0), show_weights(2, "0:2", "1:4095"), inner(get_dynamic(2, 0, 0)),
+             *take_at(less, 0x03, 8190, 0, 0), show_weights(2, "0:2", "1:8189")]
+    calls += not_taken_at(less, 0x03, 8191) + not_taken_at(full, 0x03, 8190) + not_taken_at(full, 0x03, 8192)
+    for total in (4, 5, 6):
+        calls += not_taken_at([(0, 0), (1, 5)], 0x02, total)
+    return calls + [
+        # 1, and with half the total done: the part is larger, and settles one bit.
+        start(1), *weights_of(four, 2), byte(0, 0x80), reader_at(0, TOP, 0, 7),
+        take_dynamic(2, 4, 1, 0, 0, TOP, 0, 7, 0, 4), show_weights(2, *shown(four)),
+        take_dynamic(2, 2, 0, 0, 0, TOP, 0, 8, 0, 3),
+        # 10 and 1 after an escape; a bad state is judged first.
+        start(), put_plain(4, 256), take_dynamic(2, 1, 10, 0, *FRESH, 0, 1), length(3),
+        take_dynamic(2, 1, 1, 0, *FRESH, 0, 1), show_weights(2, "0:1"), length(0), reader_at(0x8000),
+        take_dynamic(2, 1, 18, 0, 0x8000, TOP, 0, 0, 0, 1), take_dynamic(2, 2, 18),
+    ]
+
+
 def bad_values():
     """10, each way."""
     beyond = (256, 257, 0x10000, 0x7FFFFFFF, HUGE)
@@ -162,7 +222,8 @@ def refusal_cases():
     return [
         Case("refuse-writer-states", bad_writer_states()), Case("refuse-reader-states", bad_reader_states()),
         Case("refuse-pending", pending_not_inverted()), Case("refuse-counts", big_counts()),
-        Case("refuse-histograms", bad_histograms()), Case("refuse-values", bad_values()),
+        Case("refuse-histograms", bad_histograms()), Case("refuse-totals", other_totals() + total_limits()),
+        Case("refuse-values", bad_values()),
         Case("refuse-order", refused_order())]
 
 

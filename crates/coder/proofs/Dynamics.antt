@@ -3,19 +3,20 @@
 use Prim.Native.Nat.{ℕ, zero, suc, _+_, _*_, _-_, _<_}
 use Rattle.coder.proofs.Tests.{and-both}
 use Rattle.coder.proofs.Forward.{reading-next, target-below}
+use Rattle.coder.proofs.Led.{write-told}
 use Rattle.coder.proofs.Found.{symbolAt-holds}
 use Rattle.coder.proofs.Streams.{bit-binary}
 use Rattle.coder.proofs.Weights.{span-codable, weight-le}
 use Rattle.coder.specs.Bytes.{bitAt}
 use Rattle.coder.specs.Histogram.{Histogram, WellFormedHistogram, raised, spanOf, sum, symbolAt, values}
-use Rattle.coder.specs.Inside.{Next, Reading, bytesAfterLead, contextNumber, foundAs, got, granted, leadOf, roomNumber}
+use Rattle.coder.specs.Inside.{Next, Reading, bytesAfterLead, contextNumber, foundAs, leadOf, roomNumber}
 use Rattle.coder.specs.Interval.{Codable, Coder, Span, afterSymbol, target}
 use Rattle.coder.specs.Forms.{fits, unless}
 use Rattle.coder.specs.Reading.{Taken, readGiven, taken}
 use Rattle.coder.specs.Stream.{Stream}
 use Rattle.coder.specs.Symbols.{afterSymbols, dynamicAfter, dynamicSpans, plainSpans}
 use Rattle.coder.specs.Values.{Found, nextSymbol, readAfter, readDynamic, readPlain, readSymbol, symbolAfter}
-use Rattle.coder.specs.Writing.{Writer, kept, write, writtenGiven}
+use Rattle.coder.specs.Writing.{Write, Writer, kept, write, writtenGiven}
 use Rattle.coder.specs.declared.read.Read.{Read}
 use Rattle.coder.specs.declared.write.Written.{Written}
 use Rattle.fields.specs.Numbers.{noRoom, outOfRange, truncated}
@@ -93,20 +94,25 @@ room-left : (b : Bool) (later h : Histogram) → b ≡ false → h ≡ kept (unl
 room-left b later h e = rw e
 
 module _ (h : Histogram) (l : List ℕ) (w : Writer) (v : ℕ) (led : List Span) (same : led ≡ dynamicSpans h v) (r : Written) (m : List ℕ)
-    (answer : writtenGiven r m ≡ write (roomNumber l (afterSymbols (w .coder) led)) l w true led)
-    (good : granted r ≡ fits (afterSymbols (w .coder) led) (length l)) where
+    (answer : writtenGiven r m ≡ write (roomNumber l (afterSymbols (w .coder) led)) l w true led) where
+  room-told : (writtenGiven r m) .done ≡ fits (afterSymbols (w .coder) led) (length l)
+  room-told = ap (λ (o : Write). o .done) answer ∙ write-told (fits (afterSymbols (w .coder) led) (length l)) l w true led
+
+  written-done : (q : Written) → r ≡ q → fits (afterSymbols (w .coder) led) (length l) ≡ (writtenGiven q m) .done
+  written-done q e = sym room-told ∙ ap (λ (p : Written). (writtenGiven p m) .done) e
+
   pub written-answer : (q : Written) → r ≡ q
       → writtenGiven q m ≡ write (roomNumber l (afterSymbols (w .coder) (dynamicSpans h v))) l w true (dynamicSpans h v)
   written-answer q e = ap (λ (p : Written). writtenGiven p m) (sym e) ∙ rw (← same) answer
 
   pub written-left : (n : ℕ) (t : Writer) → r ≡ written.the-variants.Refused n t
       → h ≡ kept (roomNumber l (afterSymbols (w .coder) (dynamicSpans h v))) (dynamicAfter h v) h
-  written-left n t e = rw (← same) (room-left (fits (afterSymbols (w .coder) led) (length l)) (dynamicAfter h v) h (sym good ∙ ap granted e))
+  written-left n t e = rw (← same) (room-left (fits (afterSymbols (w .coder) led) (length l)) (dynamicAfter h v) h (written-done _ e))
 
   pub written-kept : (t : Writer) (k : ℕ) (g : Histogram) → r ≡ written.the-variants.Done t → k ≡ leadOf h v → g ≡ symbolAfter h k v
       → g ≡ kept (roomNumber l (afterSymbols (w .coder) (dynamicSpans h v))) (dynamicAfter h v) h
   written-kept t k g e lead raised =
-      raised ∙ rw (lead, lead-after h v, ← same) (room-kept (fits (afterSymbols (w .coder) led) (length l)) (dynamicAfter h v) h (sym good ∙ ap granted e))
+      raised ∙ rw (lead, lead-after h v, ← same) (room-kept (fits (afterSymbols (w .coder) led) (length l)) (dynamicAfter h v) h (written-done _ e))
 
 -- ---- reading
 
@@ -156,19 +162,30 @@ taken-value true true found s e = refl
 taken-value true false found s e = absurd (false≢true e)
 taken-value false b found s e = absurd (false≢true e)
 
-module _ (len : ℕ) (s : Coder) (found : Found) (r : Read) (answer : readGiven r ≡ taken (contextNumber len found) found s)
-    (good : got r ≡ (leb (found .state .settled) (8 * len) && ltb (found .value) values)) where
+-- an answer at no fault is done where both tests are passed
+taken-told : (a b : Bool) (found : Found) (s : Coder) → (taken (unless a truncated (unless b outOfRange 0)) found s) .done ≡ (a && b)
+unfolding taken
+taken-told true true found s = refl
+taken-told true false found s = refl
+taken-told false b found s = refl
+
+module _ (len : ℕ) (s : Coder) (found : Found) (r : Read) (answer : readGiven r ≡ taken (contextNumber len found) found s) where
+  value-told : (q : Read) → r ≡ q → (leb (found .state .settled) (8 * len) && ltb (found .value) values) ≡ (readGiven q) .done
+  value-told q e =
+      sym (ap (λ (t : Taken). t .done) answer ∙ taken-told (leb (found .state .settled) (8 * len)) (ltb (found .value) values) found s)
+      ∙ ap (λ (p : Read). (readGiven p) .done) e
+
   pub counted-answer : (q : Read) → r ≡ q → readGiven q ≡ taken (contextNumber len found) found s
   counted-answer q e = ap readGiven (sym e) ∙ answer
 
   pub counted-left : (n : ℕ) (t : Coder) (later h : Histogram) → r ≡ read.the-variants.Refused n t → h ≡ kept (contextNumber len found) later h
   counted-left n t later h e =
-      value-left (leb (found .state .settled) (8 * len)) (ltb (found .value) values) later h (sym good ∙ ap got e)
+      value-left (leb (found .state .settled) (8 * len)) (ltb (found .value) values) later h (value-told _ e)
 
   pub counted-got : (v : ℕ) (t : Coder) → r ≡ read.the-variants.Got v t → (v ≡ found .value) × (v < values)
   counted-got v t e =
       let test : Bool = leb (found .state .settled) (8 * len) in
-      let both : (test && ltb (found .value) values) ≡ true = sym good ∙ ap got e in
+      let both : (test && ltb (found .value) values) ≡ true = value-told _ e in
       let value : v ≡ found .value
       = ap (λ (q : Read). (readGiven q) .value) (sym e) ∙ ap (λ (q : Taken). q .value) answer
       ∙ taken-value test (ltb (found .value) values) found s both in
@@ -178,7 +195,7 @@ module _ (len : ℕ) (s : Coder) (found : Found) (r : Read) (answer : readGiven 
       → g ≡ kept (contextNumber len found) (symbolAfter h k (found .value)) h
   counted-kept v t h k g e raised =
       raised ∙ rw (counted-got v t e .0)
-      (value-kept (leb (found .state .settled) (8 * len)) (ltb (found .value) values) (symbolAfter h k (found .value)) h (sym good ∙ ap got e))
+      (value-kept (leb (found .state .settled) (8 * len)) (ltb (found .value) values) (symbolAfter h k (found .value)) h (value-told _ e))
 
 -- what is found so, in the words of the definition
 module _ (h : Histogram) (d : List ℕ) (s : Coder) (k : ℕ) (found : Found) (next : k ≡ nextSymbol h (bitAt d) s) (same : found ≡ readDynamic h (bitAt d) s) where

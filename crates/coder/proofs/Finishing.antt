@@ -2,13 +2,13 @@
 use Prim.Native.Nat.{ℕ, zero, suc, _+_, _*_, _≤_}
 use Rattle.coder.proofs.Flushing.{end-flush, end-low, end-none, zeros-low, zeros-pending}
 use Rattle.coder.proofs.Judgements.{Writable, writable}
-use Rattle.coder.proofs.Led.{holds, number-fault, number-room}
+use Rattle.coder.proofs.Led.{write-told, holds, number-fault, number-room}
 use Rattle.coder.proofs.Putting.{putBits-append}
 use Rattle.coder.proofs.Turns.{settled-length}
 use Rattle.coder.specs.Bytes.{bytesOf, padded, putBits, storeBits}
 use Rattle.coder.specs.Ending.{bitsOf, endBits, endState, lowBits, lowState}
 use Rattle.coder.specs.Forms.{fits}
-use Rattle.coder.specs.Inside.{Holds, granted, roomNumber}
+use Rattle.coder.specs.Inside.{Holds, roomNumber}
 use Rattle.coder.specs.Interval.{Coder, Span, settledBits}
 use Rattle.coder.specs.Symbols.{afterSymbols, byteSpan, plainSpans, symbolsBits}
 use Rattle.coder.specs.Writing.{End, Write, Writer, end, endAs, endNumber, write, writeFault, writtenGiven}
@@ -85,24 +85,23 @@ module _
     (r : Written)
     (lead : a ≡ byteSpan 0)
     (wrote : writtenGiven r l′ ≡ write (roomNumber l (afterSymbols (w .coder) (a ∷ plainSpans 3 0))) l w false (a ∷ plainSpans 3 0))
-    (grants : granted r ≡ fits (afterSymbols (w .coder) (a ∷ plainSpans 3 0)) (length l))
   where
     zeros-wrote : writtenGiven r l′ ≡ write (roomNumber l (afterSymbols (w .coder) (plainSpans 4 0))) l w false (plainSpans 4 0)
     zeros-wrote = rw (lead, zero-led) at wrote
 
-    zeros-grants : granted r ≡ fits (afterSymbols (w .coder) (plainSpans 4 0)) (length l)
-    zeros-grants = rw (lead, zero-led) at grants
+    zeros-told : (writtenGiven r l′) .done ≡ fits (afterSymbols (w .coder) (plainSpans 4 0)) (length l)
+    zeros-told = ap (λ (o : Write). o .done) zeros-wrote ∙ write-told (fits (afterSymbols (w .coder) (plainSpans 4 0)) (length l)) l w false (plainSpans 4 0)
 
     pub zero-refused : (n : ℕ) (w′ : Writer) → r ≡ written.the-variants.Refused n w′
         → record { number = n; done = false; used = 0; writer = w′; bytes = l′ } ≡ endsZero l w
     unfolding write
     zero-refused n w′ told =
-        let full : fits (afterSymbols (w .coder) (plainSpans 4 0)) (length l) ≡ false = sym (rw told at zeros-grants) in
+        let full : fits (afterSymbols (w .coder) (plainSpans 4 0)) (length l) ≡ false = sym (rw told at zeros-told) in
         ap (asEnd 0) (rw (told, full) at zeros-wrote) ∙ as-refused l w _ _ full
 
     module _ (w′ : Writer) (told : r ≡ written.the-variants.Done w′) where
       zeros-room : fits (afterSymbols (w .coder) (plainSpans 4 0)) (length l) ≡ true
-      zeros-room = sym (rw told at zeros-grants)
+      zeros-room = sym (rw told at zeros-told)
 
       zeros-done : record { number = 0; done = true; writer = w′; bytes = l′ } ≡ write 0 l w false (plainSpans 4 0)
       zeros-done = rw (told, zeros-room) at zeros-wrote

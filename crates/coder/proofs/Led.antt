@@ -3,7 +3,7 @@ use Prim.Native.Nat.{ℕ, zero, suc, _+_, _/_, _≤_, _<_}
 use Rattle.coder.proofs.Sequence.{all-least, all-more}
 use Rattle.coder.proofs.Tests.{first-some}
 use Rattle.coder.specs.Bytes.{padded, putBits, storeBits}
-use Rattle.coder.specs.Forms.{fits}
+use Rattle.coder.specs.Forms.{fits, unless}
 use Rattle.coder.specs.Inside.{Holds, roomNumber}
 use Rattle.coder.specs.Interval.{Coder, Span, afterSymbol, largestRange, symbolBits}
 use Rattle.coder.specs.Symbols.{afterSymbols, byteSpan, plainSpans, staticSpan, staticSpans, symbolsBits}
@@ -34,9 +34,6 @@ pub led-holds : (t u : Coder) (more : List Span) (l : List ℕ) → u ≡ afterS
 led-holds t u more l e h = let h′ : Holds l (afterSymbols t more) = rw (← e) h in omega (arith, all-least more t)
 
 module _ (w : Writer) (l : List ℕ) (compresses : Bool) (spans : List Span) (t : Coder) (next : t ≡ afterSymbols (w .coder) spans) where
-  pub led-fits : (b : Bool) → fits t (length l) ≡ b → b ≡ fits (afterSymbols (w .coder) spans) (length l)
-  led-fits b e = rw (← next) (sym e)
-
   pub led-refused : fits t (length l) ≡ false → record { number = noRoom; done = false; writer = w; bytes = l } ≡ write (roomNumber l (afterSymbols (w .coder) spans)) l w compresses spans
   unfolding write
   led-refused no-room = rw (← next, no-room)
@@ -46,6 +43,12 @@ module _ (w : Writer) (l : List ℕ) (compresses : Bool) (spans : List Span) (t 
       → record { number = 0; done = true; writer = record { coder = t; compressed = flag }; bytes = l″ } ≡ write (roomNumber l (afterSymbols (w .coder) spans)) l w compresses spans
   unfolding write storeBits
   led-done flag l′ l″ fit pad put set = rw (put, pad, set, ← next, fit, next) refl
+
+-- an answer at no fault is done where there is room
+pub write-told : (room : Bool) (l : List ℕ) (w : Writer) (compresses : Bool) (spans : List Span) → (write (unless room noRoom 0) l w compresses spans) .done ≡ room
+unfolding write
+write-told true l w compresses spans = refl
+write-told false l w compresses spans = refl
 
 -- ---- a whole call
 

@@ -20,15 +20,7 @@ pub mod Led
 pub mod Stepping
 pub mod Starting
 pub mod Dynamics
-pub mod ReadBack
 pub mod Raising
-pub mod Ends
+pub mod Counts
 pub mod Flushing
 pub mod Finishing
-pub mod Storing
-pub mod Continuing
-pub mod Calls
-pub mod RoundTrip
-pub mod Inner
-pub mod States
-pub mod Examples

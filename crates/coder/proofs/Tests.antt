@@ -1,7 +1,6 @@
 -- Laws of tests: two that pass together pass each, and judgements that come to 0 were all passed.
 use Prim.Native.Nat.{ℕ, zero, suc, _<_}
 use Rattle.coder.specs.Forms.{first, unless}
-use Rattle.coder.specs.Histogram.{Histogram}
 use Rattle.coder.specs.Writing.{kept}
 use mathlib.Core.Bool.{Bool, true, false, _&&_, false≢true}
 use mathlib.Core.Path.{_≡_, ap, refl, _∙_}
@@ -28,13 +27,13 @@ pub first-some : (n later : ℕ) → (n ≡ 0 → ⊥) → n ≡ first n later
 first-some zero later some = absurd (some refl)
 first-some (suc n) later some = refl
 
--- a refused call leaves the histogram
-pub kept-refused : {n m : ℕ} (later h : Histogram) → (n ≡ 0 → ⊥) → n ≡ m → h ≡ kept m later h
-kept-refused {n} {m} later h some same = go n some ∙ ap (λ (k : ℕ). kept k later h) same
+-- a refused call leaves what it was lent
+pub kept-refused : {A : Type 0} {n m : ℕ} (later lent : A) → (n ≡ 0 → ⊥) → n ≡ m → lent ≡ kept m later lent
+kept-refused {A} {n} {m} later lent some same = go n some ∙ ap (λ (k : ℕ). kept k later lent) same
   where
-    go : (k : ℕ) → (k ≡ 0 → ⊥) → h ≡ kept k later h
+    go : (k : ℕ) → (k ≡ 0 → ⊥) → lent ≡ kept k later lent
     go zero other = absurd (other refl)
     go (suc k) other = refl
 
-pub kept-same : {n m : ℕ} {g : Histogram} (later h : Histogram) → n ≡ m → g ≡ kept n later h → g ≡ kept m later h
-kept-same later h e k = rw (← e) k
+pub kept-same : {A : Type 0} {n m : ℕ} {then : A} (later lent : A) → n ≡ m → then ≡ kept n later lent → then ≡ kept m later lent
+kept-same later lent e k = rw (← e) k

@@ -78,6 +78,12 @@ added [] k = omega arith
 added (w ∷ l) zero = omega arith
 added (w ∷ l) (suc k) = omega (arith, added l k)
 
+pub added-one : (l : List ℕ) (k : ℕ) → k < length l → sum (addAt l k) ≡ sum l + 1
+unfolding sum
+added-one [] k h = absurd (omega arith)
+added-one (w ∷ l) zero h = omega arith
+added-one (w ∷ l) (suc k) h = omega (arith, added-one l k (omega arith))
+
 -- A symbol of some weight in a well-formed histogram can be coded.
 pub span-codable : (l : List ℕ) (k : ℕ) → WellFormedHistogram l → k < length l → 1 ≤ getD l k 0 → Codable (spanOf l k)
 unfolding spanOf

@@ -31,8 +31,11 @@ sum [] = 0
 sum (w ∷ ws) = w + sum ws
 
 -- 10.4.4.1: a symbol's cumulative frequency, its own, and the total
+abbrev pub spanIn : ℕ → Histogram → ℕ → Span
+spanIn total h k = record { start = sum (take k h); weight = getD h k 0; total = total }
+
 unfoldable pub spanOf : Histogram → ℕ → Span
-spanOf h k = record { start = sum (take k h); weight = getD h k 0; total = sum h }
+spanOf h k = spanIn (sum h) h k
 
 -- the symbol whose part of the total holds the place q
 unfoldable pub symbolAt : Histogram → ℕ → ℕ

@@ -8,5 +8,5 @@ pub mod Forms
 pub mod Ending
 pub mod Writing
 pub mod Reading
-pub mod Runs
+pub mod Totals
 pub mod Inside

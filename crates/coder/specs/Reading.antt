@@ -65,14 +65,14 @@ takeStatic look range d s =
     let found = readStatic range (bitAt d) s in
     taken (readNumber look d s true (ltb 0 range) (found .state .settled) (ltb (found .value) range)) found s
 
--- a dynamic context
-unfoldable pub takeNumber : Bool → Histogram → List ℕ → Coder → ℕ
-takeNumber look h d s =
+-- a dynamic context: the number of an answer that found this value
+unfoldable pub takeNumber : Bool → Bool → List ℕ → Coder → Found → ℕ
+takeNumber look contextGood d s found = readNumber look d s contextGood true (found .state .settled) (ltb (found .value) values)
+
+unfoldable pub takeDynamic : Histogram → List ℕ → Coder → Taken
+takeDynamic h d s =
     let found = readDynamic h (bitAt d) s in
-    readNumber look d s (histogramFormed h) true (found .state .settled) (ltb (found .value) values)
+    taken (takeNumber true (histogramFormed h) d s found) found s
 
-unfoldable pub takeDynamic : Bool → Histogram → List ℕ → Coder → Taken
-takeDynamic look h d s = taken (takeNumber look h d s) (readDynamic h (bitAt d) s) s
-
-unfoldable pub takenHistogram : Bool → Histogram → List ℕ → Coder → Histogram
-takenHistogram look h d s = kept (takeNumber look h d s) (readAfter h (bitAt d) s) h
+unfoldable pub takenHistogram : Histogram → List ℕ → Coder → Histogram
+takenHistogram h d s = kept (takeNumber true (histogramFormed h) d s (readDynamic h (bitAt d) s)) (readAfter h (bitAt d) s) h

@@ -72,10 +72,10 @@ dynamicNumber h l w v = writeNumber l (w .coder) (histogramFormed h) (ltb v valu
 unfoldable pub writeDynamic : Histogram → List ℕ → Writer → ℕ → Write
 writeDynamic h l w v = write (dynamicNumber h l w v) l w true (dynamicSpans h v)
 
--- a histogram after an answer: a refusal leaves it
-abbrev pub kept : ℕ → Histogram → Histogram → Histogram
-kept zero later h = later
-kept (suc n) later h = h
+-- what a caller lent, after an answer: a refusal leaves it
+abbrev pub kept : {A : Type 0} → ℕ → A → A → A
+kept zero later lent = later
+kept (suc n) later lent = lent
 
 unfoldable pub writtenHistogram : Histogram → List ℕ → Writer → ℕ → Histogram
 writtenHistogram h l w v = kept (dynamicNumber h l w v) (dynamicAfter h v) h

@@ -1,7 +1,7 @@
 // Numbers in a dynamic context, whose frequencies the caller lends.
 ghost use Rattle.fields.specs.Limits.{largestFile};
 ghost use mathlib.Core.Path.{_≡_};
-ghost use mathlib.Core.Bool.{true, false};
+ghost use mathlib.Core.Bool.{true};
 ghost use Prim.Native.Nat.{_+_, _^_, _<_, _≤_};
 ghost use lib.ListN.{length};
 ghost use Rattle.coder.specs.Bytes.{bitAt};
@@ -139,7 +139,13 @@ impl Coder {
     }
 
     // The value where state and histogram are well formed: it follows an escape, or is the symbol.
-    fn read_formed(self, bytes: &[u8], number: u32, frequencies: &mut [u32], total: u64) -> Read
+    pub(crate) fn read_formed(
+        self,
+        bytes: &[u8],
+        number: u32,
+        frequencies: &mut [u32],
+        total: u64,
+    ) -> Read
         requires { ⌜ Reading self (bitAt (now bytes)) × (number ≡ code self (bitAt (now bytes))) ⌝ }
         requires { ⌜ (self .settled + self .pending < 2 ^ 33) × (length (now bytes) ≤ largestFile) ⌝ }
         requires { ⌜ WellFormedHistogram (now frequencies) × (length (now frequencies) ≡ symbols) × (total ≡ sum (now frequencies)) ⌝ }
@@ -164,15 +170,16 @@ impl Coder {
         self.counted(bytes.len(), found.value, next, frequencies, total, index)
     }
 
-    fn judged_dynamic(self, bytes: &[u8], look: bool, frequencies: &mut [u32; SYMBOLS]) -> Read
-        ensures { λ r. ⌜ readGiven r ≡ takeDynamic look (now (frequencies .entry)) (now (bytes .entry)) self ⌝ }
-        ensures { λ r. ⌜ now (frequencies .exit) ≡ takenHistogram look (now (frequencies .entry)) (now (bytes .entry)) self ⌝ }
+    // Reads a value in a dynamic context.
+    pub fn read_dynamic(self, bytes: &[u8], frequencies: &mut [u32; SYMBOLS]) -> Read
+        ensures { λ r. ⌜ readGiven r ≡ takeDynamic (now (frequencies .entry)) (now (bytes .entry)) self ⌝ }
+        ensures { λ r. ⌜ now (frequencies .exit) ≡ takenHistogram (now (frequencies .entry)) (now (bytes .entry)) self ⌝ }
     {
         let start = self.start(bytes);
         if start.fault != 0 {
             return Read::Refused(start.fault, self);
         }
-        if !self.looked(bytes, look) {
+        if !self.pending_inverted(bytes) {
             return Read::Refused(BAD_STATE, self);
         }
         let total = total_of(&*frequencies);
@@ -180,21 +187,5 @@ impl Coder {
             return Read::Refused(BAD_STATE, self);
         }
         self.read_formed(bytes, start.number, frequencies, total)
-    }
-
-    // Reads a value in a dynamic context.
-    pub fn read_dynamic(self, bytes: &[u8], frequencies: &mut [u32; SYMBOLS]) -> Read
-        ensures { λ r. ⌜ readGiven r ≡ takeDynamic true (now (frequencies .entry)) (now (bytes .entry)) self ⌝ }
-        ensures { λ r. ⌜ now (frequencies .exit) ≡ takenHistogram true (now (frequencies .entry)) (now (bytes .entry)) self ⌝ }
-    {
-        self.judged_dynamic(bytes, true, frequencies)
-    }
-
-    // The same for a state that the reader made on the same data: its pending bits are not judged again.
-    pub fn take_dynamic(self, bytes: &[u8], frequencies: &mut [u32; SYMBOLS]) -> Read
-        ensures { λ r. ⌜ readGiven r ≡ takeDynamic false (now (frequencies .entry)) (now (bytes .entry)) self ⌝ }
-        ensures { λ r. ⌜ now (frequencies .exit) ≡ takenHistogram false (now (frequencies .entry)) (now (bytes .entry)) self ⌝ }
-    {
-        self.judged_dynamic(bytes, false, frequencies)
     }
 }

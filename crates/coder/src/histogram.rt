@@ -23,7 +23,7 @@ pub fn fresh_histogram() -> [u32; SYMBOLS]
     h
 }
 
-fn wide(frequency: u32) -> u64
+pub(crate) fn wide(frequency: u32) -> u64
     ensures { λ r. ⌜ (r ≡ frequency) × (r ≤ 0xFFFFFFFF) ⌝ }
 {
     frequency as u64
@@ -87,7 +87,7 @@ pub(crate) struct Symbol {
 // The symbol whose part of the total holds a place.
 pub(crate) fn symbol_at(h: &[u32], place: u64) -> Symbol
     requires { ⌜ length (now h) ≡ symbols ⌝ }
-    ensures { λ r. ⌜ (r .index ≡ symbolAt (now (h .entry)) place) × (r .start ≡ sum (take (r .index) (now (h .entry)))) ⌝ }
+    ensures { λ r. ⌜ (r .index ≡ symbolAt (now (h .entry)) place) × (r .start ≡ sum (take (r .index) (now (h .entry)))) × (r .start ≤ place) ⌝ }
 {
     let mut rest = place;
     let mut index = 0;

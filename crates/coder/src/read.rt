@@ -6,7 +6,7 @@ ghost use Prim.Native.Nat.{_+_, _*_, _-_, _/_, _^_, _<_, _≤_};
 ghost use lib.ListN.{length};
 ghost use Rattle.coder.specs.Bytes.{bitAt};
 ghost use Rattle.coder.specs.Forms.{isRun, pendingInverted};
-ghost use Rattle.coder.specs.Inside.{Reading, Stepped, countFault, foundAs, got, valueNumber};
+ghost use Rattle.coder.specs.Inside.{Reading, Stepped, countFault, foundAs, valueNumber};
 ghost use Rattle.coder.specs.Interval.{code, target, WellFormed, largestRange};
 ghost use Rattle.coder.specs.Reading.{bytesIn, readFault, readGiven, taken, takePlain, takeStatic};
 ghost use Rattle.coder.specs.Values.{readPlain, symbolValue};
@@ -158,7 +158,7 @@ impl Coder {
     }
 
     // Whether the bits after the next one, as many as are pending, are its inverse.
-    fn pending_inverted(self, bytes: &[u8]) -> bool
+    pub(crate) fn pending_inverted(self, bytes: &[u8]) -> bool
         requires { ⌜ (self .settled < 2 ^ 32) × (self .pending < 2 ^ 32) × (length (now bytes) ≤ largestFile) ⌝ }
         ensures { λ r. ⌜ r ≡ pendingInverted self (bitAt (now (bytes .entry))) ⌝ }
     {
@@ -186,7 +186,7 @@ impl Coder {
     }
 
     // Whether the pending bits are inverted, where that is asked.
-    pub(crate) fn looked(self, bytes: &[u8], look: bool) -> bool
+    fn looked(self, bytes: &[u8], look: bool) -> bool
         requires { ⌜ (self .settled < 2 ^ 32) × (self .pending < 2 ^ 32) × (length (now bytes) ≤ largestFile) ⌝ }
         ensures { λ r. ⌜ r ≡ (not look || pendingInverted self (bitAt (now (bytes .entry)))) ⌝ }
     {
@@ -220,7 +220,6 @@ impl Coder {
     pub(crate) fn accepted(self, len: usize, value: u32, next: Coder, good: bool) -> Read
         requires { ⌜ len ≤ largestFile ⌝ }
         ensures { λ r. ⌜ readGiven r ≡ taken (valueNumber len (foundAs value next) good) (foundAs value next) self ⌝ }
-        ensures { λ r. ⌜ got r ≡ (leb (next .settled) (8 * len) && good) ⌝ }
     {
         if next.settled > 8 * len as u64 {
             return Read::Refused(TRUNCATED, self);

@@ -7,7 +7,7 @@ ghost use Prim.Native.Nat.{_+_, _*_, _<_, _≤_};
 ghost use lib.ListN.{length};
 ghost use Rattle.coder.specs.Bytes.{putBits};
 ghost use Rattle.coder.specs.Forms.{fits, limitsFormed};
-ghost use Rattle.coder.specs.Inside.{Holds, Room, granted, writeRoom};
+ghost use Rattle.coder.specs.Inside.{Holds, Room, writeRoom};
 ghost use Rattle.coder.specs.Interval.{Codable, WellFormed};
 ghost use Rattle.coder.specs.Symbols.{afterSymbols, byteSpan, plainSpans, staticSpan, symbolsBits};
 ghost use Rattle.coder.specs.Writing.{freshWriter, writeFault, writePlain, writeStatic, writtenGiven};
@@ -166,7 +166,6 @@ impl Writer {
         requires { ⌜ Codable span × (count ≤ 4) ⌝ }
         requires { ⌜ Holds (now buf) (self .coder) ⌝ }
         ensures { λ r. ⌜ writtenGiven r (now (buf .exit)) ≡ writeRoom (now (buf .entry)) self compresses (span ∷ plainSpans count rest) ⌝ }
-        ensures { λ r. ⌜ granted r ≡ fits (afterSymbols (self .coder) (span ∷ plainSpans count rest)) (length (now (buf .entry))) ⌝ }
     {
         let start = self.coder;
         let second = start.after(span);

@@ -106,7 +106,7 @@ fn run_read(call: Call, machine: Machine) -> Machine {
     let mut histogram = machine.histogram(call.a);
     let bytes = bytes_at(&buffer, 0, machine.length);
     let answer = read_all(call, machine.reader, bytes, &mut histogram);
-    print_read(answer);
+    print_read(answer, call.op == record::TAKE_DYNAMIC);
     with_context(call, machine.with_reader(answer.state), histogram)
 }
 

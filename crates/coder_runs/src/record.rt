@@ -35,7 +35,7 @@ pub const READ_DYNAMIC: u32 = 11;
 pub const READ_PLAIN: u32 = 12;
 // As READ_STATIC, without judging the pending bits.
 pub const TAKE_STATIC: u32 = 13;
-// As READ_DYNAMIC, likewise.
+// As READ_DYNAMIC, likewise, with the total b where c is 1, else with the sum of the weights.
 pub const TAKE_DYNAMIC: u32 = 14;
 // As READ_PLAIN, likewise.
 pub const TAKE_PLAIN: u32 = 15;

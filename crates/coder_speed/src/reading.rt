@@ -1,8 +1,7 @@
-// Loops that read up to count numbers from the fresh state, with the reader for such runs, and add them up. The first refusal ends them. What a read promises does
-// not rule out a refusal with number 0, which says the same as the value 0: hence the test of the number.
+// Loops that read up to count numbers from the fresh state, with the reader for such runs, and add them up. The first refusal ends them.
 ghost use mathlib.Core.Bool.{false};
 ghost use mathlib.Core.Path.{_≡_};
-ghost use Prim.Native.Nat.{_+_, _%_, _<_};
+ghost use Prim.Native.Nat.{_+_, _%_};
 ghost use Rattle.coder.specs.Histogram.{freshHistogram};
 ghost use Rattle.coder.specs.Interval.{fresh};
 ghost use Rattle.coder.specs.Reading.{takePlain, takeStatic};
@@ -14,7 +13,7 @@ use coder::read::Width;
 
 // The sum modulo 2^32.
 fn plus(sum: u32, value: u32) -> u32
-    ensures { λ r. ⌜ (r ≡ (sum + value) % 0x100000000) × (r < 0x100000000) ⌝ }
+    ensures { λ r. ⌜ r ≡ (sum + value) % 0x100000000 ⌝ }
 {
     ((sum as u64 + value as u64) % 0x100000000) as u32
 }
@@ -29,11 +28,8 @@ pub extern "C" fn coder_speed_read_static(bytes: &[u8], range: u32, count: u32) 
     let mut left = count;
     while 0 < left {
         match s.take_static(bytes, range) {
-            Read::Refused(number, state) => {
-                if number != 0 {
-                    return sum;
-                }
-                s = state;
+            Read::Refused(_, _) => {
+                return sum;
             }
             Read::Got(value, state) => {
                 s = state;
@@ -48,19 +44,17 @@ pub extern "C" fn coder_speed_read_static(bytes: &[u8], range: u32, count: u32) 
 // Numbers in one dynamic context.
 #[no_mangle]
 pub extern "C" fn coder_speed_read_dynamic(bytes: &[u8], count: u32) -> u32
-    ensures { λ r. ⌜ r ≡ readDynamicSum false (now (bytes .entry)) count freshHistogram fresh 0 ⌝ }
+    ensures { λ r. ⌜ r ≡ readDynamicSum (now (bytes .entry)) count 1 freshHistogram fresh 0 ⌝ }
 {
     let mut frequencies = fresh_histogram();
+    let mut total: u32 = 1;
     let mut s = Coder::fresh();
     let mut sum = 0;
     let mut left = count;
     while 0 < left {
-        match s.take_dynamic(bytes, &mut frequencies) {
-            Read::Refused(number, state) => {
-                if number != 0 {
-                    return sum;
-                }
-                s = state;
+        match s.take_dynamic(bytes, &mut frequencies, &mut total) {
+            Read::Refused(_, _) => {
+                return sum;
             }
             Read::Got(value, state) => {
                 s = state;
@@ -82,11 +76,8 @@ pub extern "C" fn coder_speed_read_plain(bytes: &[u8], count: u32) -> u32
     let mut left = count;
     while 0 < left {
         match s.take_plain(bytes, Width::U32) {
-            Read::Refused(number, state) => {
-                if number != 0 {
-                    return sum;
-                }
-                s = state;
+            Read::Refused(_, _) => {
+                return sum;
             }
             Read::Got(value, state) => {
                 s = state;

@@ -1,5 +1,4 @@
 // Loops that write up to count generated numbers with the fresh writer and end the run. The first refusal ends them too.
-// A refusal with number 0 counts as none, as in the loops that read.
 ghost use mathlib.Core.Path.{_≡_};
 ghost use Prim.Native.Nat.{_%_};
 ghost use Rattle.coder.specs.Histogram.{freshHistogram};
@@ -50,11 +49,8 @@ pub extern "C" fn coder_speed_write_static(buf: &mut [u8], range: u32, seed: u32
     while 0 < left {
         next = next_seed(next);
         match w.write_static(&mut *buf, range, below(range, next)) {
-            Written::Refused(number, writer) => {
-                if number != 0 {
-                    return ended(writer, buf);
-                }
-                w = writer;
+            Written::Refused(_, writer) => {
+                return ended(writer, buf);
             }
             Written::Done(writer) => {
                 w = writer;
@@ -83,11 +79,8 @@ pub extern "C" fn coder_speed_write_dynamic(
     while 0 < left {
         next = next_seed(next);
         match w.write_dynamic(&mut *buf, &mut frequencies, below(values, next)) {
-            Written::Refused(number, writer) => {
-                if number != 0 {
-                    return ended(writer, buf);
-                }
-                w = writer;
+            Written::Refused(_, writer) => {
+                return ended(writer, buf);
             }
             Written::Done(writer) => {
                 w = writer;
@@ -110,11 +103,8 @@ pub extern "C" fn coder_speed_write_plain(buf: &mut [u8], seed: u32, count: u32)
     while 0 < left {
         next = next_seed(next);
         match w.write_u32(&mut *buf, next) {
-            Written::Refused(number, writer) => {
-                if number != 0 {
-                    return ended(writer, buf);
-                }
-                w = writer;
+            Written::Refused(_, writer) => {
+                return ended(writer, buf);
             }
             Written::Done(writer) => {
                 w = writer;

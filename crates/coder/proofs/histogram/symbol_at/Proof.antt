@@ -34,7 +34,7 @@ sub-t10 c = search needs
 returns : tie.Need-returns Inv-loop μ-loop
 returns c =
     let l = c .before .before .before .before .loop in
-    (symbol-stop _ (l .index) (l .rest) (search needs) (search needs) ∙ l .inv .0, search needs)
+    (symbol-stop _ (l .index) (l .rest) (search needs) (search needs) ∙ l .inv .0, search needs, search needs)
 
 add-index : tie.Need-add-index Inv-loop μ-loop
 add-index c = search needs
@@ -54,7 +54,7 @@ sub-t11 c = search needs
 returns-2 : tie.Need-returns-2 Inv-loop μ-loop
 returns-2 c =
     let l = c .before .loop in
-    (symbol-none _ (l .index) (l .rest) (search needs) ∙ l .inv .0, search needs)
+    (symbol-none _ (l .index) (l .rest) (search needs) ∙ l .inv .0, search needs, search needs)
 
 pub symbol-at-spec : {M : Type 1} → statement M
 symbol-at-spec =

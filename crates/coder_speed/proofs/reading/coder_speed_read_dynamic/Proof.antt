@@ -1,23 +1,18 @@
 -- The invariant: the numbers that are left lead to the same sum.
-use borrow.Author.Needs.{needs}
-use native.Mathlib.Omega.{arith}
-use mathlib.Core.Logic.{⊎-elim}
-use mathlib.Core.Bool.{false}
-use mathlib.Core.Path.{_≡_, ap, refl, _∙_}
-use Prim.Native.Nat.{_<_}
+use mathlib.Core.Path.{_≡_, refl, _∙_}
 use Rattle.coder.specs.Histogram.{freshHistogram}
 use Rattle.coder.specs.Interval.{fresh}
-use Rattle.coder.specs.Reading.{readGiven}
 use Rattle.coder_speed.specs.Loops.{readDynamicSum}
-use Rattle.coder_speed.proofs.Turns.{dynamic-none, dynamic-stop, dynamic-turn, told, with-none}
+use Rattle.coder_speed.proofs.Turns.{dynamic-none, dynamic-stop, dynamic-turn, told-counted}
+use borrow.Author.Needs.{needs}
 use Rattle.coder_speed.proofs.reading.coder_speed_read_dynamic.Statement.{statement}
 use Rattle.coder_speed.proofs.reading.coder_speed_read_dynamic.Tie as tie
 
 abbrev Inv-loop : tie.InvT-loop
-Inv-loop bytes count frequencies₀ s₀ sum₀ left₀ frequencies s sum left = (readDynamicSum false bytes left frequencies s sum ≡ readDynamicSum false bytes count freshHistogram fresh 0) × (sum < 0x100000000)
+Inv-loop bytes count frequencies₀ total₀ s₀ sum₀ left₀ frequencies total s sum left = readDynamicSum bytes left total frequencies s sum ≡ readDynamicSum bytes count 1 freshHistogram fresh 0
 
 abbrev μ-loop : tie.MeasureT-loop
-μ-loop bytes count frequencies₀ s₀ sum₀ left₀ frequencies s sum left = left
+μ-loop bytes count frequencies₀ total₀ s₀ sum₀ left₀ frequencies total s sum left = left
 
 fresh-histogram-requires : tie.Need-fresh-histogram-requires Inv-loop μ-loop
 fresh-histogram-requires c κs = search needs
@@ -26,18 +21,18 @@ fresh-requires : tie.Need-fresh-requires Inv-loop μ-loop
 fresh-requires c κs = search needs
 
 loop-holds : tie.Need-loop-holds Inv-loop μ-loop
-loop-holds c = (rw (c .fresh .ensures, c .before .fresh-histogram .ensures) refl, omega arith)
+loop-holds c = rw (c .fresh .ensures, c .before .fresh-histogram .ensures)
 
 take-dynamic-requires : tie.Need-take-dynamic-requires Inv-loop μ-loop
 take-dynamic-requires c κs = search needs
 
-enum-known-number : tie.Need-enum-known-number Inv-loop μ-loop
-enum-known-number c = search needs
+enum-told : tie.Need-enum-told Inv-loop μ-loop
+enum-told c = search needs
 
 returns : tie.Need-returns Inv-loop μ-loop
 returns c =
-    let l = c .before .before .before .before .before .before .before .loop in
-    dynamic-stop _ _ (l .left) (l .frequencies) (l .s) (l .sum) _ (told readGiven (c .before .before .before .before .take-dynamic .ensures .0) (c .before .before .number .given .1)) (c .if1 .taken) ∙ l .inv .0
+    let l = c .before .before .before .before .before .before .loop in
+    dynamic-stop _ (l .total) (l .frequencies) (l .s) (l .sum) _ (told-counted (c .before .before .take-dynamic .ensures) (c .enum-told .given .1)) (l .left) refl ∙ l .inv
 
 enum-known-value : tie.Need-enum-known-value Inv-loop μ-loop
 enum-known-value c = search needs
@@ -53,16 +48,11 @@ loop-less c = search needs
 
 loop-again : tie.Need-loop-again Inv-loop μ-loop
 loop-again c =
-    let l = c .before .before .before .before .loop in
-    let left = c .before .before .before .loop-test .taken in
-    let e = c .before .take-dynamic .ensures in
-    ⊎-elim
-    (λ w. rw (w .4, w .5) (ap (readDynamicSum _ _ _ _ _) (with-none (l .sum) (l .inv .1)) ∙ dynamic-turn _ _ (l .left) (l .frequencies) _ (l .s) (l .sum) _ left (told readGiven (e .0) (w .1 .given .1)) (e .1) (w .3 .left) ∙ l .inv .0, l .inv .1))
-    (λ w. rw (w .4, w .5) (rw (w .3 .ensures .0) (dynamic-turn _ _ (l .left) (l .frequencies) _ (l .s) (l .sum) _ left (told readGiven (e .0) (w .1 .given .1)) (e .1) refl ∙ l .inv .0), w .3 .ensures .1))
-    (c .match .came)
+    let l = c .before .before .before .before .before .before .before .before .loop in
+    rw (c .plus .ensures) (dynamic-turn _ (l .total) (l .frequencies) (l .s) (l .sum) _ (told-counted (c .before .before .before .before .take-dynamic .ensures) (c .before .before .value .given .1)) (l .left) (c .before .before .before .before .before .before .before .loop-test .taken) refl ∙ l .inv)
 
 returns-2 : tie.Need-returns-2 Inv-loop μ-loop
-returns-2 c = let l = c .before .loop in dynamic-none _ _ (l .left) (l .frequencies) (l .s) (l .sum) (c .loop-test .left) ∙ l .inv .0
+returns-2 c = let l = c .before .loop in dynamic-none _ (l .left) (l .total) (l .frequencies) (l .s) (l .sum) (c .loop-test .left) ∙ l .inv
 
 pub coder-speed-read-dynamic-spec : {M : Type 1} → statement M
 coder-speed-read-dynamic-spec =
@@ -74,7 +64,7 @@ coder-speed-read-dynamic-spec =
     fresh-requires
     loop-holds
     take-dynamic-requires
-    enum-known-number
+    enum-told
     returns
     enum-known-value
     plus-requires

@@ -1,19 +1,16 @@
 -- The invariant: the numbers that are left lead to the same sum.
-use borrow.Author.Needs.{needs}
-use native.Mathlib.Omega.{arith}
-use mathlib.Core.Logic.{⊎-elim}
 use mathlib.Core.Bool.{false}
-use mathlib.Core.Path.{_≡_, ap, refl, _∙_}
-use Prim.Native.Nat.{_<_}
+use mathlib.Core.Path.{_≡_, refl, _∙_}
 use Rattle.coder.specs.Interval.{fresh}
 use Rattle.coder.specs.Reading.{readGiven, takePlain}
 use Rattle.coder_speed.specs.Loops.{readSum}
-use Rattle.coder_speed.proofs.Turns.{read-none, read-stop, read-turn, told, with-none}
+use Rattle.coder_speed.proofs.Turns.{read-none, read-stop, read-turn, told}
+use borrow.Author.Needs.{needs}
 use Rattle.coder_speed.proofs.reading.coder_speed_read_plain.Statement.{statement}
 use Rattle.coder_speed.proofs.reading.coder_speed_read_plain.Tie as tie
 
 abbrev Inv-loop : tie.InvT-loop
-Inv-loop bytes count s₀ sum₀ left₀ s sum left = (readSum (takePlain false 4 bytes) left s sum ≡ readSum (takePlain false 4 bytes) count fresh 0) × (sum < 0x100000000)
+Inv-loop bytes count s₀ sum₀ left₀ s sum left = readSum (takePlain false 4 bytes) left s sum ≡ readSum (takePlain false 4 bytes) count fresh 0
 
 abbrev μ-loop : tie.MeasureT-loop
 μ-loop bytes count s₀ sum₀ left₀ s sum left = left
@@ -22,18 +19,18 @@ fresh-requires : tie.Need-fresh-requires Inv-loop μ-loop
 fresh-requires c κs = search needs
 
 loop-holds : tie.Need-loop-holds Inv-loop μ-loop
-loop-holds c = (rw (c .fresh .ensures) refl, omega arith)
+loop-holds c = rw (c .fresh .ensures)
 
 take-plain-requires : tie.Need-take-plain-requires Inv-loop μ-loop
 take-plain-requires c κs = search needs
 
-enum-known-number : tie.Need-enum-known-number Inv-loop μ-loop
-enum-known-number c = search needs
+enum-told : tie.Need-enum-told Inv-loop μ-loop
+enum-told c = search needs
 
 returns : tie.Need-returns Inv-loop μ-loop
 returns c =
-    let l = c .before .before .before .before .before .before .loop in
-    read-stop _ (l .left) (l .s) (l .sum) _ (told readGiven (c .before .before .before .before .take-plain .ensures) (c .before .before .number .given .1)) (c .if1 .taken) ∙ l .inv .0
+    let l = c .before .before .before .before .loop in
+    read-stop _ (l .left) (l .s) (l .sum) _ (told readGiven (c .before .before .take-plain .ensures) (c .enum-told .given .1)) refl ∙ l .inv
 
 enum-known-value : tie.Need-enum-known-value Inv-loop μ-loop
 enum-known-value c = search needs
@@ -49,16 +46,11 @@ loop-less c = search needs
 
 loop-again : tie.Need-loop-again Inv-loop μ-loop
 loop-again c =
-    let l = c .before .before .before .loop in
-    let left = c .before .before .loop-test .taken in
-    let e = c .before .take-plain .ensures in
-    ⊎-elim
-    (λ w. rw (w .4, w .5) (ap (readSum _ _ _) (with-none (l .sum) (l .inv .1)) ∙ read-turn _ (l .left) (l .s) (l .sum) _ left (told readGiven e (w .1 .given .1)) (w .3 .left) ∙ l .inv .0, l .inv .1))
-    (λ w. rw (w .4, w .5) (rw (w .3 .ensures .0) (read-turn _ (l .left) (l .s) (l .sum) _ left (told readGiven e (w .1 .given .1)) refl ∙ l .inv .0), w .3 .ensures .1))
-    (c .match .came)
+    let l = c .before .before .before .before .before .before .loop in
+    rw (c .plus .ensures) (read-turn _ (l .left) (l .s) (l .sum) _ (c .before .before .before .before .before .loop-test .taken) (told readGiven (c .before .before .before .before .take-plain .ensures) (c .before .before .value .given .1)) refl ∙ l .inv)
 
 returns-2 : tie.Need-returns-2 Inv-loop μ-loop
-returns-2 c = let l = c .before .loop in read-none _ (l .left) (l .s) (l .sum) (c .loop-test .left) ∙ l .inv .0
+returns-2 c = let l = c .before .loop in read-none _ (l .left) (l .s) (l .sum) (c .loop-test .left) ∙ l .inv
 
 pub coder-speed-read-plain-spec : {M : Type 1} → statement M
 coder-speed-read-plain-spec =
@@ -69,7 +61,7 @@ coder-speed-read-plain-spec =
     fresh-requires
     loop-holds
     take-plain-requires
-    enum-known-number
+    enum-told
     returns
     enum-known-value
     plus-requires

@@ -1,12 +1,11 @@
 -- The invariant: the numbers that are left lead to the same end.
-use borrow.Author.Needs.{needs}
-use mathlib.Core.Logic.{⊎-elim}
 use mathlib.Core.Path.{_≡_, ap, refl, _∙_}
 use lib.ListN.{length}
 use Rattle.coder.specs.Histogram.{freshHistogram}
 use Rattle.coder.specs.Writing.{freshWriter}
 use Rattle.coder_speed.specs.Loops.{bytesAfter, usedBytes, writeDynamicRun}
 use Rattle.coder_speed.proofs.Turns.{told-written, write-dynamic-none, write-dynamic-stop, write-dynamic-turn}
+use borrow.Author.Needs.{needs}
 use Rattle.coder_speed.proofs.writing.coder_speed_write_dynamic.Statement.{statement}
 use Rattle.coder_speed.proofs.writing.coder_speed_write_dynamic.Tie as tie
 
@@ -23,7 +22,7 @@ fresh-requires : tie.Need-fresh-requires Inv-loop μ-loop
 fresh-requires c κs = search needs
 
 loop-holds : tie.Need-loop-holds Inv-loop μ-loop
-loop-holds c = (rw (c .before .fresh-histogram .ensures, c .fresh .ensures) refl, refl)
+loop-holds c = (rw (c .before .fresh-histogram .ensures, c .fresh .ensures), refl)
 
 next-seed-requires : tie.Need-next-seed-requires Inv-loop μ-loop
 next-seed-requires c κs = search needs
@@ -34,8 +33,8 @@ below-requires c κs = search needs
 write-dynamic-requires : tie.Need-write-dynamic-requires Inv-loop μ-loop
 write-dynamic-requires c κs = search needs
 
-enum-known-number : tie.Need-enum-known-number Inv-loop μ-loop
-enum-known-number c = search needs
+enum-known-writer : tie.Need-enum-known-writer Inv-loop μ-loop
+enum-known-writer c = search needs
 
 ended-requires : tie.Need-ended-requires Inv-loop μ-loop
 ended-requires c κs = search needs
@@ -45,12 +44,12 @@ same-length c = search needs
 
 returns : tie.Need-returns Inv-loop μ-loop
 returns c =
-    let l = c .before .before .before .before .before .before .before .before .before .before .before .before .before .before .before .before .loop in
-    let e = write-dynamic-stop _ (l .left) (l .next) (l .frequencies) (l .buf) (l .w) _ _ _ (c .before .before .before .before .before .before .before .before .before .before .before .before .before .before .before .loop-test .taken) (c .before .before .before .before .before .before .before .before .before .before .before .before .before .before .next-seed .ensures) (c .before .before .before .before .before .before .before .before .before .before .before .below .ensures) (told-written _ _ _ _ (c .before .before .before .before .before .before .before .before .before .before .write-dynamic .ensures .0) (c .before .before .before .before .before .before .number .given .1)) (c .before .before .before .before .if1 .taken) ∙ l .inv .0 in
+    let l = c .before .before .before .before .before .before .before .before .before .before .before .before .before .before .before .loop in
+    let e = write-dynamic-stop _ (l .left) (l .next) (l .frequencies) (l .buf) (l .w) _ _ _ (c .before .before .before .before .before .before .before .before .before .before .before .before .before .before .loop-test .taken) (c .before .before .before .before .before .before .before .before .before .before .before .before .before .next-seed .ensures) (c .before .before .before .before .before .before .before .before .before .before .below .ensures) (told-written _ _ _ _ (c .before .before .before .before .before .before .before .before .before .write-dynamic .ensures .0) (c .before .before .before .before .before .writer .given .1)) refl ∙ l .inv .0 in
     (c .before .before .ended .ensures .0 ∙ ap usedBytes e, c .before .before .ended .ensures .1 ∙ ap bytesAfter e)
 
-enum-known-writer : tie.Need-enum-known-writer Inv-loop μ-loop
-enum-known-writer c = search needs
+enum-known-writer-2 : tie.Need-enum-known-writer-2 Inv-loop μ-loop
+enum-known-writer-2 c = search needs
 
 sub-left : tie.Need-sub-left Inv-loop μ-loop
 sub-left c = search needs
@@ -60,11 +59,8 @@ loop-less c = search needs
 
 loop-again : tie.Need-loop-again Inv-loop μ-loop
 loop-again c =
-    let l = c .before .before .before .before .before .before .before .before .before .loop in
-    ⊎-elim
-    (λ w. rw (w .4) (write-dynamic-turn _ (l .left) (l .next) (l .frequencies) _ (l .buf) (l .w) _ _ _ (c .before .before .before .before .before .before .before .before .loop-test .taken) (c .before .before .before .before .before .before .before .next-seed .ensures) (c .before .before .before .before .below .ensures) (told-written _ _ _ _ (c .before .before .before .write-dynamic .ensures .0) (w .1 .given .1)) (c .before .before .before .write-dynamic .ensures .1) (w .3 .left) ∙ l .inv .0, search needs))
-    (λ w. rw (w .3) (write-dynamic-turn _ (l .left) (l .next) (l .frequencies) _ (l .buf) (l .w) _ _ _ (c .before .before .before .before .before .before .before .before .loop-test .taken) (c .before .before .before .before .before .before .before .next-seed .ensures) (c .before .before .before .before .below .ensures) (told-written _ _ _ _ (c .before .before .before .write-dynamic .ensures .0) (w .1 .given .1)) (c .before .before .before .write-dynamic .ensures .1) refl ∙ l .inv .0, search needs))
-    (c .match .came)
+    let l = c .before .before .before .before .before .before .before .before .before .before .before .loop in
+    (write-dynamic-turn _ (l .left) (l .next) (l .frequencies) _ (l .buf) (l .w) _ _ _ (c .before .before .before .before .before .before .before .before .before .before .loop-test .taken) (c .before .before .before .before .before .before .before .before .before .next-seed .ensures) (c .before .before .before .before .before .before .below .ensures) (told-written _ _ _ _ (c .before .before .before .before .before .write-dynamic .ensures .0) (c .before .writer2 .given .1)) (c .before .before .before .before .before .write-dynamic .ensures .1) refl ∙ l .inv .0, search needs)
 
 ended-requires-2 : tie.Need-ended-requires-2 Inv-loop μ-loop
 ended-requires-2 c κs = search needs
@@ -90,11 +86,11 @@ coder-speed-write-dynamic-spec =
     next-seed-requires
     below-requires
     write-dynamic-requires
-    enum-known-number
+    enum-known-writer
     ended-requires
     same-length
     returns
-    enum-known-writer
+    enum-known-writer-2
     sub-left
     loop-less
     loop-again

@@ -1,11 +1,10 @@
 -- The invariant: the numbers that are left lead to the same end.
-use borrow.Author.Needs.{needs}
-use mathlib.Core.Logic.{⊎-elim}
 use mathlib.Core.Path.{_≡_, ap, refl, _∙_}
 use lib.ListN.{length}
 use Rattle.coder.specs.Writing.{freshWriter, writeStatic}
 use Rattle.coder_speed.specs.Loops.{below, bytesAfter, usedBytes, writeRun}
 use Rattle.coder_speed.proofs.Turns.{told-written, write-none, write-stop, write-turn}
+use borrow.Author.Needs.{needs}
 use Rattle.coder_speed.proofs.writing.coder_speed_write_static.Statement.{statement}
 use Rattle.coder_speed.proofs.writing.coder_speed_write_static.Tie as tie
 
@@ -19,7 +18,7 @@ fresh-requires : tie.Need-fresh-requires Inv-loop μ-loop
 fresh-requires c κs = search needs
 
 loop-holds : tie.Need-loop-holds Inv-loop μ-loop
-loop-holds c = (rw (c .fresh .ensures) refl, refl)
+loop-holds c = (rw (c .fresh .ensures), refl)
 
 next-seed-requires : tie.Need-next-seed-requires Inv-loop μ-loop
 next-seed-requires c κs = search needs
@@ -30,8 +29,8 @@ below-requires c κs = search needs
 write-static-requires : tie.Need-write-static-requires Inv-loop μ-loop
 write-static-requires c κs = search needs
 
-enum-known-number : tie.Need-enum-known-number Inv-loop μ-loop
-enum-known-number c = search needs
+enum-known-writer : tie.Need-enum-known-writer Inv-loop μ-loop
+enum-known-writer c = search needs
 
 ended-requires : tie.Need-ended-requires Inv-loop μ-loop
 ended-requires c κs = search needs
@@ -41,12 +40,12 @@ same-length c = search needs
 
 returns : tie.Need-returns Inv-loop μ-loop
 returns c =
-    let l = c .before .before .before .before .before .before .before .before .before .before .before .before .before .before .before .loop in
-    let e = write-stop _ _ (l .left) (l .next) (l .buf) (l .w) _ _ _ (c .before .before .before .before .before .before .before .before .before .before .before .before .before .before .loop-test .taken) (c .before .before .before .before .before .before .before .before .before .before .before .before .before .next-seed .ensures) (c .before .before .before .before .before .before .before .before .before .before .before .below .ensures) (told-written _ _ _ _ (c .before .before .before .before .before .before .before .before .before .before .write-static .ensures) (c .before .before .before .before .before .before .number .given .1)) (c .before .before .before .before .if1 .taken) ∙ l .inv .0 in
+    let l = c .before .before .before .before .before .before .before .before .before .before .before .before .before .before .loop in
+    let e = write-stop _ _ (l .left) (l .next) (l .buf) (l .w) _ _ _ (c .before .before .before .before .before .before .before .before .before .before .before .before .before .loop-test .taken) (c .before .before .before .before .before .before .before .before .before .before .before .before .next-seed .ensures) (c .before .before .before .before .before .before .before .before .before .before .below .ensures) (told-written _ _ _ _ (c .before .before .before .before .before .before .before .before .before .write-static .ensures) (c .before .before .before .before .before .writer .given .1)) refl ∙ l .inv .0 in
     (c .before .before .ended .ensures .0 ∙ ap usedBytes e, c .before .before .ended .ensures .1 ∙ ap bytesAfter e)
 
-enum-known-writer : tie.Need-enum-known-writer Inv-loop μ-loop
-enum-known-writer c = search needs
+enum-known-writer-2 : tie.Need-enum-known-writer-2 Inv-loop μ-loop
+enum-known-writer-2 c = search needs
 
 sub-left : tie.Need-sub-left Inv-loop μ-loop
 sub-left c = search needs
@@ -56,11 +55,8 @@ loop-less c = search needs
 
 loop-again : tie.Need-loop-again Inv-loop μ-loop
 loop-again c =
-    let l = c .before .before .before .before .before .before .before .before .loop in
-    ⊎-elim
-    (λ w. rw (w .4) (write-turn _ _ (l .left) (l .next) (l .buf) (l .w) _ _ _ (c .before .before .before .before .before .before .before .loop-test .taken) (c .before .before .before .before .before .before .next-seed .ensures) (c .before .before .before .before .below .ensures) (told-written _ _ _ _ (c .before .before .before .write-static .ensures) (w .1 .given .1)) (w .3 .left) ∙ l .inv .0, search needs))
-    (λ w. rw (w .3) (write-turn _ _ (l .left) (l .next) (l .buf) (l .w) _ _ _ (c .before .before .before .before .before .before .before .loop-test .taken) (c .before .before .before .before .before .before .next-seed .ensures) (c .before .before .before .before .below .ensures) (told-written _ _ _ _ (c .before .before .before .write-static .ensures) (w .1 .given .1)) refl ∙ l .inv .0, search needs))
-    (c .match .came)
+    let l = c .before .before .before .before .before .before .before .before .before .before .loop in
+    (write-turn _ _ (l .left) (l .next) (l .buf) (l .w) _ _ _ (c .before .before .before .before .before .before .before .before .before .loop-test .taken) (c .before .before .before .before .before .before .before .before .next-seed .ensures) (c .before .before .before .before .before .before .below .ensures) (told-written _ _ _ _ (c .before .before .before .before .before .write-static .ensures) (c .before .writer2 .given .1)) refl ∙ l .inv .0, search needs)
 
 ended-requires-2 : tie.Need-ended-requires-2 Inv-loop μ-loop
 ended-requires-2 c κs = search needs
@@ -85,11 +81,11 @@ coder-speed-write-static-spec =
     next-seed-requires
     below-requires
     write-static-requires
-    enum-known-number
+    enum-known-writer
     ended-requires
     same-length
     returns
-    enum-known-writer
+    enum-known-writer-2
     sub-left
     loop-less
     loop-again

@@ -12,15 +12,15 @@ mul-if1 c = search needs
 
 returns : tie.Need-returns
 unfolding taken
-returns c = rw (lt-leb (c .before .before .args .next .settled) (8 * c .before .before .args .len) (search needs)) (refl, refl)
+returns c = rw (lt-leb (c .before .before .args .next .settled) (8 * c .before .before .args .len) (search needs)) refl
 
 returns-2 : tie.Need-returns-2
 unfolding taken
-returns-2 c = rw (le-leb (c .before .before .before .args .next .settled) (8 * c .before .before .before .args .len) (search needs), not-true (c .before .before .before .args .good) (c .if2 .taken)) (refl, refl)
+returns-2 c = rw (le-leb (c .before .before .before .args .next .settled) (8 * c .before .before .before .args .len) (search needs), not-true (c .before .before .before .args .good) (c .if2 .taken)) refl
 
 returns-3 : tie.Need-returns-3
 unfolding taken
-returns-3 c = rw (le-leb (c .before .before .before .args .next .settled) (8 * c .before .before .before .args .len) (search needs), not-false (c .before .before .before .args .good) (c .if2 .left)) (refl, refl)
+returns-3 c = rw (le-leb (c .before .before .before .args .next .settled) (8 * c .before .before .before .args .len) (search needs), not-false (c .before .before .before .args .good) (c .if2 .left)) refl
 
 pub accepted-spec : {M : Type 1} → statement M
 accepted-spec = tie.close (tie.spec mul-if1 returns returns-2 returns-3)

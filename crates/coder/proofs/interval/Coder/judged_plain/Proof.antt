@@ -32,7 +32,7 @@ accepted-requires c κs = let k = readable false (c .before .before .before .bef
 
 returns-3 : tie.Need-returns-3
 unfolding takePlain
-returns-3 c = rw (← c .before .before .plain-value .ensures) (taken-judged _ _ _ true true _ _ _ _ (fault-none (c .before .before .before .before .before .before .before .before .before .args .look) _ _ _ (c .before .before .before .before .before .before .before .start .ensures .0) (c .before .before .before .before .before .if1 .left) (sym (c .before .before .before .before .looked .ensures) ∙ not-false _ (c .before .before .before .if2 .left))) refl refl refl (c .accepted .ensures .0))
+returns-3 c = rw (← c .before .before .plain-value .ensures) (taken-judged _ _ _ true true _ _ _ _ (fault-none (c .before .before .before .before .before .before .before .before .before .args .look) _ _ _ (c .before .before .before .before .before .before .before .start .ensures .0) (c .before .before .before .before .before .if1 .left) (sym (c .before .before .before .before .looked .ensures) ∙ not-false _ (c .before .before .before .if2 .left))) refl refl refl (c .accepted .ensures))
 
 pub judged-plain-spec : {M : Type 1} → statement M
 judged-plain-spec =

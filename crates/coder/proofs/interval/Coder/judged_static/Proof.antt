@@ -48,7 +48,7 @@ accepted-requires c κs = let k = readable false (c .before .before .before .bef
 returns-4 : tie.Need-returns-4
 unfolding takeStatic target
 returns-4 c = let e = range-one (c .before .before .before .before .before .before .before .before .before .before .before .before .args .range) (bitAt (c .before .before .before .before .before .before .before .before .before .before .before .before .args .bytes .now)) (c .before .before .before .before .before .before .before .before .before .before .before .before .args .self) (c .before .before .before .target .result) (c .before .after .result) (search needs) (c .before .before .before .target .ensures ∙ rw (c .before .before .before .before .before .before .before .before .before .before .start .ensures .1 (c .before .before .before .before .before .before .before .before .if1 .left))) (c .before .after .ensures ∙ rw (c .before .before .static-span .ensures)) in
-    rw (← e) (taken-judged _ _ _ true _ _ _ _ _ (fault-none (c .before .before .before .before .before .before .before .before .before .before .before .before .args .look) _ _ _ (c .before .before .before .before .before .before .before .before .before .before .start .ensures .0) (c .before .before .before .before .before .before .before .before .if1 .left) (sym (c .before .before .before .before .before .before .before .looked .ensures) ∙ not-false _ (c .before .before .before .before .before .before .if2 .left))) refl refl (lt-ltb 0 (c .before .before .before .before .before .before .before .before .before .before .before .before .args .range) (search needs)) (c .accepted .ensures .0))
+    rw (← e) (taken-judged _ _ _ true _ _ _ _ _ (fault-none (c .before .before .before .before .before .before .before .before .before .before .before .before .args .look) _ _ _ (c .before .before .before .before .before .before .before .before .before .before .start .ensures .0) (c .before .before .before .before .before .before .before .before .if1 .left) (sym (c .before .before .before .before .before .before .before .looked .ensures) ∙ not-false _ (c .before .before .before .before .before .before .if2 .left))) refl refl (lt-ltb 0 (c .before .before .before .before .before .before .before .before .before .before .before .before .args .range) (search needs)) (c .accepted .ensures))
 
 plain-u32-requires : tie.Need-plain-u32-requires
 plain-u32-requires c κs = let k = readable false (c .before .before .before .before .before .before .before .before .args .bytes .now) (c .before .before .before .before .before .before .before .before .args .self) (sym (c .before .before .before .before .before .before .start .ensures .0) ∙ c .before .before .before .before .if1 .left) in (k .reading, omega arith)
@@ -59,7 +59,7 @@ accepted-requires-2 c κs = let k = readable false (c .before .before .before .b
 returns-5 : tie.Need-returns-5
 unfolding takeStatic
 returns-5 c = let e = range-plain (c .before .before .before .before .before .before .before .before .before .before .before .before .args .range) (bitAt (c .before .before .before .before .before .before .before .before .before .before .before .before .args .bytes .now)) (c .before .before .before .before .before .before .before .before .before .before .before .before .args .self) (c .before .before .before .plain-u32 .result) (search needs) (c .before .before .before .plain-u32 .ensures) in
-    rw (← e) (taken-judged _ _ _ true _ _ (c .before .before .before .plain-u32 .result) _ _ (fault-none (c .before .before .before .before .before .before .before .before .before .before .before .before .args .look) _ _ _ (c .before .before .before .before .before .before .before .before .before .before .start .ensures .0) (c .before .before .before .before .before .before .before .before .if1 .left) (sym (c .before .before .before .before .before .before .before .looked .ensures) ∙ not-false _ (c .before .before .before .before .before .before .if2 .left))) refl refl (lt-ltb 0 (c .before .before .before .before .before .before .before .before .before .before .before .before .args .range) (search needs)) (c .accepted2 .ensures .0))
+    rw (← e) (taken-judged _ _ _ true _ _ (c .before .before .before .plain-u32 .result) _ _ (fault-none (c .before .before .before .before .before .before .before .before .before .before .before .before .args .look) _ _ _ (c .before .before .before .before .before .before .before .before .before .before .start .ensures .0) (c .before .before .before .before .before .before .before .before .if1 .left) (sym (c .before .before .before .before .before .before .before .looked .ensures) ∙ not-false _ (c .before .before .before .before .before .before .if2 .left))) refl refl (lt-ltb 0 (c .before .before .before .before .before .before .before .before .before .before .before .before .args .range) (search needs)) (c .accepted2 .ensures))
 
 pub judged-static-spec : {M : Type 1} → statement M
 judged-static-spec =

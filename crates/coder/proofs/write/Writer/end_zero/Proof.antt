@@ -21,7 +21,7 @@ enum-known-writer c = search needs
 bytes-of-requires : tie.Need-bytes-of-requires
 bytes-of-requires c κs =
     let a = c .before .before .before .before .before .before .before .before .before .before .args in
-    zero-small (a .buf .now) _ (a .self) _ _ (c .before .before .before .before .before .before .before .byte-span .ensures) (c .before .before .before .before .before .before .write-led .ensures .0) (c .before .before .before .before .before .before .write-led .ensures .1) _ (c .before .before .writer .given .1) (c .before .before .before .before .before .before .before .before .before .before .pre .1)
+    zero-small (a .buf .now) _ (a .self) _ _ (c .before .before .before .before .before .before .before .byte-span .ensures) (c .before .before .before .before .before .before .write-led .ensures) _ (c .before .before .writer .given .1) (c .before .before .before .before .before .before .before .before .before .before .pre .1)
 
 same-length : tie.Need-same-length
 same-length c = search needs
@@ -29,7 +29,7 @@ same-length c = search needs
 returns : tie.Need-returns
 returns c =
     let a = c .before .before .before .before .before .before .before .before .before .args in
-    zero-refused (a .buf .now) _ (a .self) _ _ (c .before .before .before .before .before .before .byte-span .ensures) (c .before .before .before .before .before .write-led .ensures .0) (c .before .before .before .before .before .write-led .ensures .1) _ _ (c .before .number .given .1)
+    zero-refused (a .buf .now) _ (a .self) _ _ (c .before .before .before .before .before .before .byte-span .ensures) (c .before .before .before .before .before .write-led .ensures) _ _ (c .before .number .given .1)
 
 same-length-2 : tie.Need-same-length-2
 same-length-2 c = search needs
@@ -37,7 +37,7 @@ same-length-2 c = search needs
 returns-2 : tie.Need-returns-2
 returns-2 c =
     let a = c .before .before .before .before .before .before .before .before .before .before .before .args in
-    zero-done (a .buf .now) _ (a .self) _ _ (c .before .before .before .before .before .before .before .before .byte-span .ensures) (c .before .before .before .before .before .before .before .write-led .ensures .0) (c .before .before .before .before .before .before .before .write-led .ensures .1) _ (c .before .before .before .writer .given .1) _ (c .bytes-of .ensures)
+    zero-done (a .buf .now) _ (a .self) _ _ (c .before .before .before .before .before .before .before .before .byte-span .ensures) (c .before .before .before .before .before .before .before .write-led .ensures) _ (c .before .before .before .writer .given .1) _ (c .bytes-of .ensures)
 
 pub end-zero-spec : {M : Type 1} → statement M
 end-zero-spec =

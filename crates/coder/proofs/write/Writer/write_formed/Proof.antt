@@ -33,7 +33,7 @@ same-length-2 : tie.Need-same-length-2
 same-length-2 c = search needs
 
 returns : tie.Need-returns
-returns c = (written-answer (c .before .before .before .before .before .before .before .before .before .before .before .before .before .before .args .frequencies .now) (c .before .before .before .before .before .before .before .before .before .before .before .before .before .before .args .buf .now) (c .before .before .before .before .before .before .before .before .before .before .before .before .before .before .args .self) (c .before .before .before .before .before .before .before .before .before .before .before .before .before .before .args .value) _ (lead-led (c .before .before .before .before .before .before .before .before .before .before .before .before .before .before .args .frequencies .now) (c .before .before .before .before .before .before .before .before .before .before .before .before .before .before .args .value) _ _ _ (c .before .before .before .before .before .before .before .before .before .before .symbol-of .ensures) (c .before .before .before .before .before .before .before .before .before .bytes-after .ensures .0) (c .before .before .before .before .before .before .before .span-of .ensures)) (c .before .before .before .before .before .write-led .result) _ (c .before .before .before .before .before .write-led .ensures .0) (c .before .before .before .before .before .write-led .ensures .1) _ (c .before .number .given .1), written-left (c .before .before .before .before .before .before .before .before .before .before .before .before .before .before .args .frequencies .now) (c .before .before .before .before .before .before .before .before .before .before .before .before .before .before .args .buf .now) (c .before .before .before .before .before .before .before .before .before .before .before .before .before .before .args .self) (c .before .before .before .before .before .before .before .before .before .before .before .before .before .before .args .value) _ (lead-led (c .before .before .before .before .before .before .before .before .before .before .before .before .before .before .args .frequencies .now) (c .before .before .before .before .before .before .before .before .before .before .before .before .before .before .args .value) _ _ _ (c .before .before .before .before .before .before .before .before .before .before .symbol-of .ensures) (c .before .before .before .before .before .before .before .before .before .bytes-after .ensures .0) (c .before .before .before .before .before .before .before .span-of .ensures)) (c .before .before .before .before .before .write-led .result) _ (c .before .before .before .before .before .write-led .ensures .0) (c .before .before .before .before .before .write-led .ensures .1) _ _ (c .before .number .given .1))
+returns c = (written-answer (c .before .before .before .before .before .before .before .before .before .before .before .before .before .before .args .frequencies .now) (c .before .before .before .before .before .before .before .before .before .before .before .before .before .before .args .buf .now) (c .before .before .before .before .before .before .before .before .before .before .before .before .before .before .args .self) (c .before .before .before .before .before .before .before .before .before .before .before .before .before .before .args .value) _ (lead-led (c .before .before .before .before .before .before .before .before .before .before .before .before .before .before .args .frequencies .now) (c .before .before .before .before .before .before .before .before .before .before .before .before .before .before .args .value) _ _ _ (c .before .before .before .before .before .before .before .before .before .before .symbol-of .ensures) (c .before .before .before .before .before .before .before .before .before .bytes-after .ensures .0) (c .before .before .before .before .before .before .before .span-of .ensures)) (c .before .before .before .before .before .write-led .result) _ (c .before .before .before .before .before .write-led .ensures) _ (c .before .number .given .1), written-left (c .before .before .before .before .before .before .before .before .before .before .before .before .before .before .args .frequencies .now) (c .before .before .before .before .before .before .before .before .before .before .before .before .before .before .args .buf .now) (c .before .before .before .before .before .before .before .before .before .before .before .before .before .before .args .self) (c .before .before .before .before .before .before .before .before .before .before .before .before .before .before .args .value) _ (lead-led (c .before .before .before .before .before .before .before .before .before .before .before .before .before .before .args .frequencies .now) (c .before .before .before .before .before .before .before .before .before .before .before .before .before .before .args .value) _ _ _ (c .before .before .before .before .before .before .before .before .before .before .symbol-of .ensures) (c .before .before .before .before .before .before .before .before .before .bytes-after .ensures .0) (c .before .before .before .before .before .before .before .span-of .ensures)) (c .before .before .before .before .before .write-led .result) _ (c .before .before .before .before .before .write-led .ensures) _ _ (c .before .number .given .1))
 
 same-length-3 : tie.Need-same-length-3
 same-length-3 c = search needs
@@ -42,7 +42,7 @@ same-length-4 : tie.Need-same-length-4
 same-length-4 c = search needs
 
 returns-2 : tie.Need-returns-2
-returns-2 c = (written-answer (c .before .before .before .before .before .before .before .before .before .before .before .before .before .before .before .before .before .before .args .frequencies .now) (c .before .before .before .before .before .before .before .before .before .before .before .before .before .before .before .before .before .before .args .buf .now) (c .before .before .before .before .before .before .before .before .before .before .before .before .before .before .before .before .before .before .args .self) (c .before .before .before .before .before .before .before .before .before .before .before .before .before .before .before .before .before .before .args .value) _ (lead-led (c .before .before .before .before .before .before .before .before .before .before .before .before .before .before .before .before .before .before .args .frequencies .now) (c .before .before .before .before .before .before .before .before .before .before .before .before .before .before .before .before .before .before .args .value) _ _ _ (c .before .before .before .before .before .before .before .before .before .before .before .before .before .before .symbol-of .ensures) (c .before .before .before .before .before .before .before .before .before .before .before .before .before .bytes-after .ensures .0) (c .before .before .before .before .before .before .before .before .before .before .before .span-of .ensures)) (c .before .before .before .before .before .before .before .before .before .write-led .result) _ (c .before .before .before .before .before .before .before .before .before .write-led .ensures .0) (c .before .before .before .before .before .before .before .before .before .write-led .ensures .1) _ (c .before .before .before .before .before .writer .given .1), written-kept (c .before .before .before .before .before .before .before .before .before .before .before .before .before .before .before .before .before .before .args .frequencies .now) (c .before .before .before .before .before .before .before .before .before .before .before .before .before .before .before .before .before .before .args .buf .now) (c .before .before .before .before .before .before .before .before .before .before .before .before .before .before .before .before .before .before .args .self) (c .before .before .before .before .before .before .before .before .before .before .before .before .before .before .before .before .before .before .args .value) _ (lead-led (c .before .before .before .before .before .before .before .before .before .before .before .before .before .before .before .before .before .before .args .frequencies .now) (c .before .before .before .before .before .before .before .before .before .before .before .before .before .before .before .before .before .before .args .value) _ _ _ (c .before .before .before .before .before .before .before .before .before .before .before .before .before .before .symbol-of .ensures) (c .before .before .before .before .before .before .before .before .before .before .before .before .before .bytes-after .ensures .0) (c .before .before .before .before .before .before .before .before .before .before .before .span-of .ensures)) (c .before .before .before .before .before .before .before .before .before .write-led .result) _ (c .before .before .before .before .before .before .before .before .before .write-led .ensures .0) (c .before .before .before .before .before .before .before .before .before .write-led .ensures .1) _ _ _ (c .before .before .before .before .before .writer .given .1) (c .before .before .before .before .before .before .before .before .before .before .before .before .before .before .symbol-of .ensures) (c .before .before .raise-after .ensures))
+returns-2 c = (written-answer (c .before .before .before .before .before .before .before .before .before .before .before .before .before .before .before .before .before .before .args .frequencies .now) (c .before .before .before .before .before .before .before .before .before .before .before .before .before .before .before .before .before .before .args .buf .now) (c .before .before .before .before .before .before .before .before .before .before .before .before .before .before .before .before .before .before .args .self) (c .before .before .before .before .before .before .before .before .before .before .before .before .before .before .before .before .before .before .args .value) _ (lead-led (c .before .before .before .before .before .before .before .before .before .before .before .before .before .before .before .before .before .before .args .frequencies .now) (c .before .before .before .before .before .before .before .before .before .before .before .before .before .before .before .before .before .before .args .value) _ _ _ (c .before .before .before .before .before .before .before .before .before .before .before .before .before .before .symbol-of .ensures) (c .before .before .before .before .before .before .before .before .before .before .before .before .before .bytes-after .ensures .0) (c .before .before .before .before .before .before .before .before .before .before .before .span-of .ensures)) (c .before .before .before .before .before .before .before .before .before .write-led .result) _ (c .before .before .before .before .before .before .before .before .before .write-led .ensures) _ (c .before .before .before .before .before .writer .given .1), written-kept (c .before .before .before .before .before .before .before .before .before .before .before .before .before .before .before .before .before .before .args .frequencies .now) (c .before .before .before .before .before .before .before .before .before .before .before .before .before .before .before .before .before .before .args .buf .now) (c .before .before .before .before .before .before .before .before .before .before .before .before .before .before .before .before .before .before .args .self) (c .before .before .before .before .before .before .before .before .before .before .before .before .before .before .before .before .before .before .args .value) _ (lead-led (c .before .before .before .before .before .before .before .before .before .before .before .before .before .before .before .before .before .before .args .frequencies .now) (c .before .before .before .before .before .before .before .before .before .before .before .before .before .before .before .before .before .before .args .value) _ _ _ (c .before .before .before .before .before .before .before .before .before .before .before .before .before .before .symbol-of .ensures) (c .before .before .before .before .before .before .before .before .before .before .before .before .before .bytes-after .ensures .0) (c .before .before .before .before .before .before .before .before .before .before .before .span-of .ensures)) (c .before .before .before .before .before .before .before .before .before .write-led .result) _ (c .before .before .before .before .before .before .before .before .before .write-led .ensures) _ _ _ (c .before .before .before .before .before .writer .given .1) (c .before .before .before .before .before .before .before .before .before .before .before .before .before .before .symbol-of .ensures) (c .before .before .raise-after .ensures))
 
 pub write-formed-spec : {M : Type 1} → statement M
 write-formed-spec =

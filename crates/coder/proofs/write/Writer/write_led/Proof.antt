@@ -1,5 +1,5 @@
 -- Refused where the bits after it don't fit; else the byte is padded and the bits of both parts are put.
-use Rattle.coder.proofs.Led.{led-fits, after-led, bits-led, holds, led-done, led-holds, led-refused}
+use Rattle.coder.proofs.Led.{after-led, bits-led, holds, led-done, led-holds, led-refused}
 use native.Mathlib.Omega.{arith}
 use mathlib.Core.Path.{sym, _∙_}
 use borrow.Author.Tests.{not-true, not-false}
@@ -18,7 +18,7 @@ has-room-requires : tie.Need-has-room-requires
 has-room-requires c κs = search needs
 
 returns : tie.Need-returns
-returns c = let room = sym (c .before .has-room .ensures) ∙ not-true _ (c .if1 .taken) in (led-refused (c .before .before .before .before .before .before .args .self) (c .before .before .before .before .before .before .args .buf .now) (c .before .before .before .before .before .before .args .compresses) _ _ (after-led _ _ _ _ _ (c .before .before .before .after .ensures) (c .before .before .after-plain .ensures)) room, led-fits (c .before .before .before .before .before .before .args .self) (c .before .before .before .before .before .before .args .buf .now) (c .before .before .before .before .before .before .args .compresses) _ _ (after-led _ _ _ _ _ (c .before .before .before .after .ensures) (c .before .before .after-plain .ensures)) _ room)
+returns c = let room = sym (c .before .has-room .ensures) ∙ not-true _ (c .if1 .taken) in led-refused (c .before .before .before .before .before .before .args .self) (c .before .before .before .before .before .before .args .buf .now) (c .before .before .before .before .before .before .args .compresses) _ _ (after-led _ _ _ _ _ (c .before .before .before .after .ensures) (c .before .before .after-plain .ensures)) room
 
 pad-requires : tie.Need-pad-requires
 pad-requires c κs = search needs
@@ -36,7 +36,7 @@ same-length : tie.Need-same-length
 same-length c = search needs
 
 returns-2 : tie.Need-returns-2
-returns-2 c = let room = sym (c .before .before .before .before .before .before .before .before .before .before .before .before .before .before .has-room .ensures) ∙ not-false _ (c .before .before .before .before .before .before .before .before .before .before .before .before .before .if1 .left) in (led-done (c .before .before .before .before .before .before .before .before .before .before .before .before .before .before .before .before .before .before .before .args .self) (c .before .before .before .before .before .before .before .before .before .before .before .before .before .before .before .before .before .before .before .args .buf .now) (c .before .before .before .before .before .before .before .before .before .before .before .before .before .before .before .before .before .before .before .args .compresses) _ _ (after-led _ _ _ _ _ (c .before .before .before .before .before .before .before .before .before .before .before .before .before .before .before .before .after .ensures) (c .before .before .before .before .before .before .before .before .before .before .before .before .before .before .before .after-plain .ensures)) _ _ _ room (c .before .before .before .before .before .before .before .before .before .before .before .pad .ensures) (bits-led _ _ _ _ _ _ _ (c .before .before .before .before .before .before .before .before .before .before .before .before .before .before .before .before .after .ensures) (c .before .before .before .before .before .before .before .put-symbol .ensures) (c .before .before .before .put-plain .ensures)) (c .either .ensures), led-fits (c .before .before .before .before .before .before .before .before .before .before .before .before .before .before .before .before .before .before .before .args .self) (c .before .before .before .before .before .before .before .before .before .before .before .before .before .before .before .before .before .before .before .args .buf .now) (c .before .before .before .before .before .before .before .before .before .before .before .before .before .before .before .before .before .before .before .args .compresses) _ _ (after-led _ _ _ _ _ (c .before .before .before .before .before .before .before .before .before .before .before .before .before .before .before .before .after .ensures) (c .before .before .before .before .before .before .before .before .before .before .before .before .before .before .before .after-plain .ensures)) _ room)
+returns-2 c = let room = sym (c .before .before .before .before .before .before .before .before .before .before .before .before .before .before .has-room .ensures) ∙ not-false _ (c .before .before .before .before .before .before .before .before .before .before .before .before .before .if1 .left) in led-done (c .before .before .before .before .before .before .before .before .before .before .before .before .before .before .before .before .before .before .before .args .self) (c .before .before .before .before .before .before .before .before .before .before .before .before .before .before .before .before .before .before .before .args .buf .now) (c .before .before .before .before .before .before .before .before .before .before .before .before .before .before .before .before .before .before .before .args .compresses) _ _ (after-led _ _ _ _ _ (c .before .before .before .before .before .before .before .before .before .before .before .before .before .before .before .before .after .ensures) (c .before .before .before .before .before .before .before .before .before .before .before .before .before .before .before .after-plain .ensures)) _ _ _ room (c .before .before .before .before .before .before .before .before .before .before .before .pad .ensures) (bits-led _ _ _ _ _ _ _ (c .before .before .before .before .before .before .before .before .before .before .before .before .before .before .before .before .after .ensures) (c .before .before .before .before .before .before .before .put-symbol .ensures) (c .before .before .before .put-plain .ensures)) (c .either .ensures)
 
 pub write-led-spec : {M : Type 1} → statement M
 write-led-spec =

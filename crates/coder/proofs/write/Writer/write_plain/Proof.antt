@@ -27,7 +27,7 @@ same-length c = search needs
 
 returns-2 : tie.Need-returns-2
 unfolding writePlain
-returns-2 c = led-judged _ (c .before .before .before .before .before .before .before .before .args .self) _ true true _ _ _ _ (c .before .before .before .before .before .before .write-fault .ensures) (c .before .before .before .before .before .if1 .left) refl refl (plain-led (c .before .before .before .before .before .before .before .before .args .more) (c .before .before .before .before .before .before .before .before .args .value)) (rw (← c .before .before .before .byte-span .ensures) (c .before .before .write-led .ensures .0))
+returns-2 c = led-judged _ (c .before .before .before .before .before .before .before .before .args .self) _ true true _ _ _ _ (c .before .before .before .before .before .before .write-fault .ensures) (c .before .before .before .before .before .if1 .left) refl refl (plain-led (c .before .before .before .before .before .before .before .before .args .more) (c .before .before .before .before .before .before .before .before .args .value)) (rw (← c .before .before .before .byte-span .ensures) (c .before .before .write-led .ensures))
 
 pub write-plain-spec : {M : Type 1} → statement M
 write-plain-spec =

@@ -33,7 +33,7 @@ same-length c = search needs
 
 returns-3 : tie.Need-returns-3
 unfolding writeStatic
-returns-3 c = led-judged _ (c .before .before .before .before .before .before .before .before .before .before .args .self) _ true _ _ _ _ _ (c .before .before .before .before .before .before .before .before .write-fault .ensures) (c .before .before .before .before .before .before .before .if1 .left) refl (lt-ltb (c .before .before .before .before .before .before .before .before .before .before .args .value) (c .before .before .before .before .before .before .before .before .before .before .args .range) (search needs)) (static-one (c .before .before .before .before .before .before .before .before .before .before .args .range) (c .before .before .before .before .before .before .before .before .before .before .args .value) (search needs)) (rw (← c .before .before .before .static-span .ensures) (c .before .before .write-led .ensures .0))
+returns-3 c = led-judged _ (c .before .before .before .before .before .before .before .before .before .before .args .self) _ true _ _ _ _ _ (c .before .before .before .before .before .before .before .before .write-fault .ensures) (c .before .before .before .before .before .before .before .if1 .left) refl (lt-ltb (c .before .before .before .before .before .before .before .before .before .before .args .value) (c .before .before .before .before .before .before .before .before .before .before .args .range) (search needs)) (static-one (c .before .before .before .before .before .before .before .before .before .before .args .range) (c .before .before .before .before .before .before .before .before .before .before .args .value) (search needs)) (rw (← c .before .before .before .static-span .ensures) (c .before .before .write-led .ensures))
 
 byte-span-requires : tie.Need-byte-span-requires
 byte-span-requires c κs = search needs
@@ -46,7 +46,7 @@ same-length-2 c = search needs
 
 returns-4 : tie.Need-returns-4
 unfolding writeStatic
-returns-4 c = led-judged _ (c .before .before .before .before .before .before .before .before .before .before .args .self) _ true _ _ _ _ _ (c .before .before .before .before .before .before .before .before .write-fault .ensures) (c .before .before .before .before .before .before .before .if1 .left) refl (lt-ltb (c .before .before .before .before .before .before .before .before .before .before .args .value) (c .before .before .before .before .before .before .before .before .before .before .args .range) (search needs)) (static-plain (c .before .before .before .before .before .before .before .before .before .before .args .range) (c .before .before .before .before .before .before .before .before .before .before .args .value) (search needs)) (rw (← c .before .before .before .byte-span .ensures) (c .before .before .write-led2 .ensures .0))
+returns-4 c = led-judged _ (c .before .before .before .before .before .before .before .before .before .before .args .self) _ true _ _ _ _ _ (c .before .before .before .before .before .before .before .before .write-fault .ensures) (c .before .before .before .before .before .before .before .if1 .left) refl (lt-ltb (c .before .before .before .before .before .before .before .before .before .before .args .value) (c .before .before .before .before .before .before .before .before .before .before .args .range) (search needs)) (static-plain (c .before .before .before .before .before .before .before .before .before .before .args .range) (c .before .before .before .before .before .before .before .before .before .before .args .value) (search needs)) (rw (← c .before .before .before .byte-span .ensures) (c .before .before .write-led2 .ensures))
 
 pub write-static-spec : {M : Type 1} → statement M
 write-static-spec =

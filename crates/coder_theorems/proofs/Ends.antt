@@ -1,18 +1,19 @@
 -- Whatever the end writes, a reader at the state before it agrees with the stream: the end's bits were tried on such a reader, or are low
 -- itself.
 use Prim.Native.Nat.{ℕ, zero, suc, _+_, _*_, _-_, _/_, _%_, _^_, _≤_, _<_}
 use Rattle.coder.proofs.Backward.{settled-first}
 use Rattle.coder.proofs.Carrying.{carries-append, carries-at}
 use Rattle.coder.proofs.Judgements.{finds-true}
 use Rattle.coder.proofs.Sequence.{all-count}
 use Rattle.coder.proofs.SettledBits.{AllBits, all-bits, bits-append, settled-bits}
 use Rattle.coder.proofs.Spans.{plain-codable}
 use Rattle.coder.proofs.Streams.{word-first}
 use Rattle.coder.proofs.Turns.{settled-length}
 use Rattle.coder.specs.Ending.{bitsOf, endBits, endState, flushBits, flushFound, flushState, lowBits, lowState, placed}
-use Rattle.coder.specs.Interval.{Agrees, Coder, WellFormed, code, settledBits}
+use Rattle.coder.specs.Interval.{Agrees, WellFormed, code, settledBits}
+use Rattle.coder.specs.declared.interval.Coder.{Coder}
 use Rattle.coder.specs.Stream.{Carries, Stream, word}
 use Rattle.coder.specs.Symbols.{plainSpans}
 use lib.Arith.{mod-mul}
 use lib.ListN.{List·getD-eq-default, getD, length, length-append}
 use lib.Pow.{pow-pos}

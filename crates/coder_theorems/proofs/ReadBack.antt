@@ -1,15 +1,18 @@
 -- A reader that is pointed to a value's symbols finds the value: a symbol's part of the total is its own, and a byte reversed twice is
 -- the byte.
 use Prim.Native.Nat.{ℕ, zero, suc, _+_, _*_, _/_, _%_, _^_, _<_}
 use Rattle.coder.proofs.Backward.{Pointed}
 use Rattle.coder.proofs.Reversal.{reversed-twice}
 use Rattle.coder.proofs.Spans.{dynamic-cases}
 use Rattle.coder.proofs.Weights.{symbol-part}
 use Rattle.coder.specs.Histogram.{Histogram, spanOf, sum}
-use Rattle.coder.specs.Interval.{Coder, Span, afterSymbol, largestRange, target}
+use Rattle.coder.specs.Interval.{afterSymbol, largestRange, target}
+use Rattle.coder.specs.declared.interval.Coder.{Coder}
+use Rattle.coder.specs.declared.interval.Span.{Span}
 use Rattle.coder.specs.Stream.{Stream}
 use Rattle.coder.specs.Symbols.{afterSymbols, dynamicAfter, dynamicSpans, plainSpans, reversed, staticSpan, staticSpans}
-use Rattle.coder.specs.Values.{Found, nextSymbol, readAfter, readDynamic, readPlain, readStatic, readSymbol, symbolAfter, symbolValue}
+use Rattle.coder.specs.Values.{nextSymbol, readAfter, readDynamic, readPlain, readStatic, readSymbol, symbolAfter, symbolValue}
+use Rattle.coder.specs.declared.read.Found.{Found}
 use lib.Dec.{leb}
 use mathlib.Core.Bool.{Bool, true, false}
 use mathlib.Core.List.{List, [], _∷_}

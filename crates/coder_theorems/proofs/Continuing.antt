@@ -1,18 +1,20 @@
 -- Data that continue what a writer left continue what it had before: the bits of the symbols, or of the end, that were written between
 -- stand in them.
 use Prim.Native.Nat.{ℕ, _+_, _*_, _≤_, _<_}
 use Rattle.coder.proofs.Backward.{Pointed, all-back}
 use Rattle.coder.proofs.Carrying.{carries-kept}
-use Rattle.coder.proofs.Ends.{end-agrees, end-bits, end-count}
+use Rattle.coder_theorems.proofs.Ends.{end-agrees, end-bits, end-count}
 use Rattle.coder.proofs.Sequence.{all-count}
 use Rattle.coder.proofs.SettledBits.{all-bits}
 use Rattle.coder.proofs.Spans.{AllCodable}
-use Rattle.coder.proofs.Storing.{length-store, store-stored, take-after, take-before}
+use Rattle.coder_theorems.proofs.Storing.{length-store, store-stored, take-after, take-before}
 use Rattle.coder.proofs.Streams.{bit-binary}
 use Rattle.coder.specs.Bytes.{bitAt, bytesOf, storeBits}
 use Rattle.coder.specs.Ending.{endBits, endState}
-use Rattle.coder.specs.Interval.{Agrees, Coder, Span, WellFormed}
+use Rattle.coder.specs.Interval.{Agrees, WellFormed}
+use Rattle.coder.specs.declared.interval.Coder.{Coder}
+use Rattle.coder.specs.declared.interval.Span.{Span}
 use Rattle.coder.specs.Symbols.{afterSymbols, symbolsBits}
 use Rattle.fields.specs.Limits.{largestFile}
 use lib.ListN.{length, length-take, take}
 use mathlib.Core.Bool.{Bool}

@@ -1,12 +1,14 @@
 -- Runs of calls: numbers in contexts, written one after the other and read back. Each call is handed what the one before gave back.
 use Prim.Native.Nat.{ℕ, _^_, _<_}
-use Rattle.coder.specs.Histogram.{Histogram}
-use Rattle.coder.specs.Interval.{Coder}
+use Rattle.coder.specs.Histogram.{Histogram, sum}
+use Rattle.coder.specs.declared.interval.Coder.{Coder}
 use Rattle.coder.specs.Reading.{Taken, takeDynamic, takePlain, takeStatic, takenHistogram}
-use Rattle.coder.specs.Writing.{Write, Writer, writeDynamic, writePlain, writeStatic, writtenHistogram}
+use Rattle.coder.specs.Totals.{takeCounted}
+use Rattle.coder.specs.Writing.{Write, writeDynamic, writePlain, writeStatic, writtenHistogram}
+use Rattle.coder.specs.declared.write.Writer.{Writer}
 use lib.ListN.{getD, set}
-use mathlib.Core.Bool.{Bool, true}
-use mathlib.Core.List.{List, [], _∷_}
+use mathlib.Core.Bool.{true, false}
+use mathlib.Core.List.{List, [], _∷_, map}
 use mathlib.Core.Path.{_≡_}
 
 pub data Context : Type 0 where
@@ -65,17 +67,39 @@ pub record ReadCall : Type 0 where
   pub result : Taken
   pub histograms : Histograms
 
-unfoldable pub callRead : Bool → List ℕ → Coder → Histograms → Context → ReadCall
-callRead look d s hs (plain n) = record { result = takePlain look n d s; histograms = hs }
-callRead look d s hs (static range) = record { result = takeStatic look range d s; histograms = hs }
-callRead look d s hs (dynamic k) =
-    record { result = takeDynamic look (getD hs k []) d s; histograms = set hs k (takenHistogram look (getD hs k []) d s) }
+unfoldable pub callRead : List ℕ → Coder → Histograms → Context → ReadCall
+callRead d s hs (plain n) = record { result = takePlain true n d s; histograms = hs }
+callRead d s hs (static range) = record { result = takeStatic true range d s; histograms = hs }
+callRead d s hs (dynamic k) = record { result = takeDynamic (getD hs k []) d s; histograms = set hs k (takenHistogram (getD hs k []) d s) }
 
-unfoldable pub readCalls : Bool → List ℕ → Coder → Histograms → List Context → List ReadCall
-readCalls look d s hs [] = []
-readCalls look d s hs (c ∷ cs) =
-    let r = callRead look d s hs c in
-    r ∷ readCalls look d (r .result .state) (r .histograms) cs
+unfoldable pub readCalls : List ℕ → Coder → Histograms → List Context → List ReadCall
+readCalls d s hs [] = []
+readCalls d s hs (c ∷ cs) =
+    let r = callRead d s hs c in
+    r ∷ readCalls d (r .result .state) (r .histograms) cs
+
+-- the same by the reader for runs of numbers, with the histograms' totals
+pub record TakeCall : Type 0 where
+  pub result : Taken
+  pub histograms : Histograms
+  pub totals : List ℕ
+
+unfoldable pub callTake : List ℕ → Coder → Histograms → List ℕ → Context → TakeCall
+callTake d s hs totals (plain n) = record { result = takePlain false n d s; histograms = hs; totals = totals }
+callTake d s hs totals (static range) = record { result = takeStatic false range d s; histograms = hs; totals = totals }
+callTake d s hs totals (dynamic k) =
+    let t = takeCounted (getD totals k 0) (getD hs k []) d s in
+    record { result = t .result; histograms = set hs k (t .histogram); totals = set totals k (t .total) }
+
+unfoldable pub takeCalls : List ℕ → Coder → Histograms → List ℕ → List Context → List TakeCall
+takeCalls d s hs totals [] = []
+takeCalls d s hs totals (c ∷ cs) =
+    let r = callTake d s hs totals c in
+    r ∷ takeCalls d (r .result .state) (r .histograms) (r .totals) cs
+
+-- what is told of a judged call, and the sums of its histograms
+abbrev pub withTotals : ReadCall → TakeCall
+withTotals r = record { result = r .result; histograms = r .histograms; totals = map sum (r .histograms) }
 
 -- what a reader of the run's numbers has to give back: each number, and the state and histograms that the writer's call left
 unfoldable pub readBack : List Number → List WriteCall → List ReadCall

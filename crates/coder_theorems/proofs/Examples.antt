@@ -1,15 +1,16 @@
 -- 01's examples of the coder, and a run that meets the round trip's assumptions: each side computes to the other.
 use Prim.Native.Nat.{ℕ}
-use Rattle.coder.proofs.RoundTrip.{round-trip}
+use Rattle.coder_theorems.proofs.RoundTrip.{round-trip}
 use Rattle.coder.specs.Bytes.{padded, putBit, putBits, storeBits}
 use Rattle.coder.specs.Ending.{bitsOf, endBits, endState, flushBits, flushState, lowBits, lowState, placed}
 use Rattle.coder.specs.Forms.{codeWithin, finds, isRun, limitsFormed, pendingInverted, writerFormed}
 use Rattle.coder.specs.Histogram.{freshHistogram, histogramFormed, raised, spanOf, sum, thinned}
-use Rattle.coder.specs.Interval.{Coder, afterSymbol, code, fresh, narrow, postpones, settleTops, settledBits, symbolBits, topBits}
-use Rattle.coder.specs.Runs.{AllDone, AllTyped, Number, WriteCall, bytesAfter, callWrite, contextOf, dynamic, plain, readBack, readCalls, static, writeCalls, writerAfter}
+use Rattle.coder.specs.Interval.{afterSymbol, code, fresh, narrow, postpones, settleTops, settledBits, symbolBits, topBits}
+use Rattle.coder.specs.declared.interval.Coder.{Coder}
+use Rattle.coder_theorems.specs.Runs.{AllDone, AllTyped, Number, WriteCall, bytesAfter, callWrite, contextOf, dynamic, plain, readBack, readCalls, static, writeCalls, writerAfter}
 use Rattle.coder.specs.Stream.{word}
 use Rattle.coder.specs.Symbols.{afterSymbols, dynamicAfter, dynamicSpans, plainSpans, reversed, staticSpans, symbolsBits}
 use Rattle.coder.specs.Writing.{End, Write, dynamicNumber, end, endNumber, endAs, freshWriter, write, writeDynamic, writeFault, writeNumber, writePlain, writeStatic, writtenHistogram}
 use lib.ListN.{replicate, take}
 use mathlib.Core.Bool.{true}
 use mathlib.Core.List.{List, [], _∷_, map}
@@ -80,5 +81,5 @@ unfolding examples AllDone bitsOf bytesAfter code codeWithin end endBits endNumb
     lowState pendingInverted placed run word writePlain writerAfter
 run-done = ((refl, (refl, (refl, (refl, tt)))), refl)
 
-run-read : readCalls true (take (run-ended .used) (run-ended .bytes)) fresh (freshHistogram ∷ []) (map contextOf run) ≡ readBack run run-calls
+run-read : readCalls (take (run-ended .used) (run-ended .bytes)) fresh (freshHistogram ∷ []) (map contextOf run) ≡ readBack run run-calls
 run-read = round-trip run (freshHistogram ∷ []) (bytes 32) run-typed (run-done .0) (run-done .1)

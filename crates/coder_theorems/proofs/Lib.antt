@@ -1,0 +1,9 @@
+pub mod Storing
+pub mod ReadBack
+pub mod Ends
+pub mod Continuing
+pub mod Calls
+pub mod RoundTrip
+pub mod Inner
+pub mod States
+pub mod Examples
