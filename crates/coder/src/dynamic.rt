@@ -11,7 +11,7 @@ ghost use Rattle.coder.specs.Interval.{WellFormed, code};
 ghost use Rattle.coder.specs.Reading.{readGiven, takeDynamic, taken, takenHistogram};
 ghost use Rattle.coder.specs.Symbols.{afterSymbols, dynamicAfter, dynamicSpans};
 ghost use Rattle.coder.specs.Values.{readAfter, readDynamic, symbolAfter};
-ghost use Rattle.coder.specs.Writing.{kept, write, writeDynamic, writtenGiven, writtenHistogram};
+ghost use Rattle.coder.specs.Writing.{kept, writeDynamic, writtenGiven, writtenHistogram};
 use crate::histogram::SYMBOLS;
 use crate::histogram::Symbol;
 use crate::histogram::VALUES;

@@ -4,7 +4,6 @@ ghost use mathlib.Core.Path.{_≡_};
 ghost use mathlib.Core.Bool.{_||_};
 ghost use mathlib.Core.List.{_∷_};
 ghost use Prim.Native.Nat.{_+_, _*_, _<_, _≤_};
-ghost use lib.ListN.{length};
 ghost use Rattle.coder.specs.Bytes.{putBits};
 ghost use Rattle.coder.specs.Forms.{fits, limitsFormed};
 ghost use Rattle.coder.specs.Inside.{Holds, Room, writeRoom};

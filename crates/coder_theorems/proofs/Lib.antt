@@ -5,5 +5,6 @@ pub mod Continuing
 pub mod Calls
 pub mod RoundTrip
 pub mod Inner
+pub mod Steady
 pub mod States
 pub mod Examples

@@ -1,11 +1,12 @@
 -- Runs of calls: numbers in contexts, written one after the other and read back. Each call is handed what the one before gave back.
-use Prim.Native.Nat.{ℕ, _^_, _<_}
-use Rattle.coder.specs.Histogram.{Histogram, sum}
+use Prim.Native.Nat.{ℕ, _+_, _*_, _^_, _<_}
+use Rattle.coder.specs.Histogram.{Histogram, histogramFormed, sum}
 use Rattle.coder.specs.declared.interval.Coder.{Coder}
 use Rattle.coder.specs.Reading.{Taken, takeDynamic, takePlain, takeStatic, takenHistogram}
 use Rattle.coder.specs.Totals.{takeCounted}
 use Rattle.coder.specs.Writing.{Write, writeDynamic, writePlain, writeStatic, writtenHistogram}
 use Rattle.coder.specs.declared.write.Writer.{Writer}
+use Rattle.fields.specs.Numbers.{badState, overLimit}
 use lib.ListN.{getD, set}
 use mathlib.Core.Bool.{true, false}
 use mathlib.Core.List.{List, [], _∷_, map}
@@ -100,6 +101,35 @@ takeCalls d s hs totals (c ∷ cs) =
 -- what is told of a judged call, and the sums of its histograms
 abbrev pub withTotals : ReadCall → TakeCall
 withTotals r = record { result = r .result; histograms = r .histograms; totals = map sum (r .histograms) }
+
+-- the bits that a read settles or postpones at most: 32 a symbol
+abbrev pub mostBits : Context → ℕ
+mostBits (plain n) = 32 * n
+mostBits (static range) = 128
+mostBits (dynamic k) = 160
+
+abbrev pub allBits : List Context → ℕ
+allBits [] = 0
+allBits (c ∷ cs) = mostBits c + allBits cs
+
+-- every histogram is well formed, and every dynamic context has one of so many
+unfoldable pub AllFormed : Histograms → Type 0
+AllFormed [] = Unit {0}
+AllFormed (h ∷ hs) = (histogramFormed h ≡ true) × AllFormed hs
+
+abbrev pub Present : ℕ → Context → Type 0
+Present count (plain n) = Unit {0}
+Present count (static range) = Unit {0}
+Present count (dynamic k) = k < count
+
+unfoldable pub AllPresent : ℕ → List Context → Type 0
+AllPresent count [] = Unit {0}
+AllPresent count (c ∷ cs) = Present count c × AllPresent count cs
+
+-- no answer is 9 or 18
+unfoldable pub NoneAtFault : List ReadCall → Type 0
+NoneAtFault [] = Unit {0}
+NoneAtFault (r ∷ rs) = (r .result .number ≡ overLimit → ⊥) × (r .result .number ≡ badState → ⊥) × NoneAtFault rs
 
 -- what a reader of the run's numbers has to give back: each number, and the state and histograms that the writer's call left
 unfoldable pub readBack : List Number → List WriteCall → List ReadCall
