@@ -9,12 +9,12 @@ use Rattle.coder.proofs.Tests.{and-both}
 use Rattle.coder.proofs.Weights.{added-one}
 use Rattle.coder.specs.Bytes.{bitAt}
 use Rattle.coder.specs.Forms.{unless}
-use Rattle.coder.specs.Histogram.{Histogram, WellFormedHistogram, addAt, histogramFormed, largestTotal, raised, spanIn, spanOf, sum, symbolAt, thinned, values}
+use Rattle.coder.specs.Histogram.{Histogram, WellFormedHistogram, addAt, belowFull, histogramFormed, largestTotal, partFits, raised, spanIn, spanOf, sum, symbolAt, thinned, values}
 use Rattle.coder.specs.Inside.{Quick, contextNumber, foundAs, quickCounted, summedCounted}
 use Rattle.coder.specs.Interval.{Codable, Coder, afterSymbol, target}
 use Rattle.coder.specs.Reading.{Taken, readFault, readNumber, takeNumber, taken}
 use Rattle.coder.specs.Stream.{Stream}
-use Rattle.coder.specs.Totals.{Counted, belowFull, countedAs, partFits, quickSymbol, takeBy, takeCounted, takeQuick, takeSummed}
+use Rattle.coder.specs.Totals.{Counted, countedAs, quickSymbol, takeBy, takeCounted, takeQuick, takeSummed}
 use Rattle.coder.specs.Values.{Found, nextSymbol, readAfter, readDynamic, readSymbol, symbolAfter}
 use Rattle.coder.specs.Writing.{kept}
 use Rattle.fields.specs.Numbers.{badState, truncated}

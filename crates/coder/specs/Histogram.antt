@@ -2,8 +2,8 @@
 -- (10.4.3, 10.4.9). What follows this file knows the list only through these definitions.
 use Prim.Native.Nat.{ℕ, suc, _+_, _-_, _/_, _≤_}
 use Rattle.coder.specs.Interval.{Span}
-use lib.Dec.{leb, ltb}
-use lib.ListN.{getD, replicate, set, take}
+use lib.Dec.{eqb, leb, ltb}
+use lib.ListN.{getD, length, replicate, set, take}
 use mathlib.Core.Bool.{Bool, true, false, cond, _&&_}
 use mathlib.Core.List.{List, [], _∷_, map}
 
@@ -42,6 +42,10 @@ unfoldable pub symbolAt : Histogram → ℕ → ℕ
 symbolAt [] q = 0
 symbolAt (w ∷ ws) q = elim (ltb q w) [ true ↦ 0 | false ↦ suc (symbolAt ws (q - w)) ]
 
+-- a value of frequency 0 is escaped
+abbrev pub escaped : Histogram → ℕ → Bool
+escaped h v = eqb (getD h (suc v) 0) 0
+
 abbrev pub halve : ℕ → ℕ
 halve w = w / 2
 
@@ -60,6 +64,14 @@ raised h k = addAt (thinned h) k
 -- "escape has weight 1 or more and the total is at most 0x1FFF"
 unfoldable pub histogramFormed : Histogram → Bool
 histogramFormed h = leb 1 (getD h 0 0) && leb (sum h) largestTotal
+
+-- for a total that the caller kept: one that leads to a symbol, and at which no frequency is halved
+unfoldable pub belowFull : ℕ → Bool
+belowFull total = leb 1 total && ltb total largestTotal
+
+-- nothing has to be added up for the symbol k: escape has some frequency, k is a value's, and its part ends within the total
+unfoldable pub partFits : ℕ → Histogram → ℕ → Bool
+partFits total h k = leb 1 (getD h 0 0) && (ltb 0 k && (ltb k (length h) && leb (sum (take k h) + getD h k 0) total))
 
 pub record WellFormedHistogram (h : Histogram) : Type 0 where
   pub escape : 1 ≤ getD h 0 0

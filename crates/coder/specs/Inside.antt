@@ -2,7 +2,7 @@
 use Prim.Native.Nat.{ℕ, zero, suc, _+_, _*_, _-_, _/_, _^_, _≤_, _<_}
 use Rattle.coder.specs.Bytes.{bitAt}
 use Rattle.coder.specs.Forms.{fits, limitsFormed, unless}
-use Rattle.coder.specs.Histogram.{Histogram, addAt, histogramFormed, largestTotal, spanIn, spanOf, sum, values}
+use Rattle.coder.specs.Histogram.{Histogram, addAt, escaped, histogramFormed, largestTotal, spanIn, spanOf, sum, values}
 use Rattle.coder.specs.Interval.{Codable, Coder, Span, WellFormed, afterSymbol, code, largestRange}
 use Rattle.coder.specs.Stream.{Stream}
 use Rattle.coder.specs.Symbols.{afterSymbols}
@@ -12,7 +12,7 @@ use Rattle.coder.specs.Writing.{End, Write, Writer, endAs, write}
 use Rattle.fields.specs.Limits.{largestFile}
 use Rattle.fields.specs.Numbers.{badState, noRoom, outOfRange, overLimit, truncated}
 use lib.Dec.{eqb, leb, ltb}
-use lib.ListN.{getD, length, take}
+use lib.ListN.{length, take}
 use mathlib.Core.Bool.{Bool, true, false, _&&_}
 use mathlib.Core.List.{List}
 use mathlib.Core.Path.{_≡_}
@@ -70,7 +70,7 @@ foundAs v s = record { value = v; state = s }
 
 -- the symbol of a value: its own, or escape where its frequency is 0; and the plain bytes that follow it
 unfoldable pub leadOf : Histogram → ℕ → ℕ
-leadOf h v = elim (eqb (getD h (suc v) 0) 0) [ true ↦ 0 | false ↦ suc v ]
+leadOf h v = elim (escaped h v) [ true ↦ 0 | false ↦ suc v ]
 
 abbrev pub bytesAfterLead : ℕ → ℕ
 bytesAfterLead zero = 4

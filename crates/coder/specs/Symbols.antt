@@ -1,9 +1,8 @@
 -- The symbols that a number is written as (10.4.5, 10.4.8, 10.4.9), and the state and the bits after several of them.
 use Prim.Native.Nat.{ℕ, zero, suc, _+_, _*_, _/_, _%_, _^_}
-use Rattle.coder.specs.Histogram.{Histogram, raised, spanOf}
+use Rattle.coder.specs.Histogram.{Histogram, escaped, raised, spanOf}
 use Rattle.coder.specs.Interval.{Coder, Span, afterSymbol, largestRange, symbolBits}
-use lib.Dec.{eqb, leb}
-use lib.ListN.{getD}
+use lib.Dec.{leb}
 use mathlib.Core.Bool.{true, false}
 use mathlib.Core.List.{List, [], _∷_, _++_}
 
@@ -31,11 +30,11 @@ staticSpans range v = elim (leb range largestRange) [ true ↦ staticSpan range 
 
 -- 10.4.5: a value in a dynamic context. A value of frequency 0 is the escape symbol and a plain U32
 unfoldable pub dynamicSpans : Histogram → ℕ → List Span
-dynamicSpans h v = elim (eqb (getD h (suc v) 0) 0) [ true ↦ spanOf h 0 ∷ plainSpans 4 v | false ↦ spanOf h (suc v) ∷ [] ]
+dynamicSpans h v = elim (escaped h v) [ true ↦ spanOf h 0 ∷ plainSpans 4 v | false ↦ spanOf h (suc v) ∷ [] ]
 
 -- 10.4.9: its histogram after it
 unfoldable pub dynamicAfter : Histogram → ℕ → Histogram
-dynamicAfter h v = elim (eqb (getD h (suc v) 0) 0) [ true ↦ raised (raised h 0) (suc v) | false ↦ raised h (suc v) ]
+dynamicAfter h v = elim (escaped h v) [ true ↦ raised (raised h 0) (suc v) | false ↦ raised h (suc v) ]
 
 -- the state after symbols, and the bits that they settle
 unfoldable pub afterSymbols : Coder → List Span → Coder

@@ -2,25 +2,16 @@
 -- them up again only where it must. Where the total is their sum it answers as the judged reader does (theorem `inner-is-judged`).
 use Prim.Native.Nat.{ℕ, zero, suc, _+_}
 use Rattle.coder.specs.Bytes.{bitAt}
-use Rattle.coder.specs.Histogram.{Histogram, addAt, histogramFormed, largestTotal, spanIn, sum, symbolAt}
+use Rattle.coder.specs.Histogram.{Histogram, addAt, belowFull, histogramFormed, partFits, spanIn, sum, symbolAt}
 use Rattle.coder.specs.Interval.{Coder, afterSymbol, target}
 use Rattle.coder.specs.Reading.{Taken, readGiven, takeNumber, taken}
 use Rattle.coder.specs.Stream.{Stream}
 use Rattle.coder.specs.Values.{Found, readAfter, readDynamic}
 use Rattle.coder.specs.Writing.{kept}
 use Rattle.coder.specs.declared.read.Read.{Read}
-use lib.Dec.{eqb, leb, ltb}
-use lib.ListN.{getD, length, take}
-use mathlib.Core.Bool.{Bool, true, false, cond, _&&_}
+use lib.Dec.{eqb}
+use mathlib.Core.Bool.{true, false, cond, _&&_}
 use mathlib.Core.List.{List}
-
--- a total that leads to a symbol, and at which no frequency is halved
-unfoldable pub belowFull : ℕ → Bool
-belowFull total = leb 1 total && ltb total largestTotal
-
--- nothing has to be added up for the symbol k: escape has some frequency, k is a value's, and its part ends within the total
-unfoldable pub partFits : ℕ → Histogram → ℕ → Bool
-partFits total h k = leb 1 (getD h 0 0) && (ltb 0 k && (ltb k (length h) && leb (sum (take k h) + getD h k 0) total))
 
 -- the symbol that the total leads to; 0 where the frequencies have to be added up
 unfoldable pub quickSymbol : ℕ → Histogram → Stream → Coder → ℕ

@@ -1,5 +1,5 @@
 -- Each test in turn.
-use Rattle.coder.specs.Totals.{partFits}
+use Rattle.coder.specs.Histogram.{partFits}
 use lib.ListN.{getD, length}
 use borrow.Author.Tests.{le-leb, le-ltb, lt-leb, lt-ltb}
 use borrow.Author.Needs.{needs}
