@@ -37,7 +37,7 @@ module _ (d : List ℕ) (s : Coder) (contextGood rangeGood : Bool) (found : Foun
           on (p .context) (p .range) (p .readable .reading) .inverted v
       go (suc n) e = v
 
-call-inverted : (d : List ℕ) (s : Coder) (hs : Histograms) (c : Context) → Inverted s (bitAt d) → Inverted ((callRead d s hs c) .result .state) (bitAt d)
+pub call-inverted : (d : List ℕ) (s : Coder) (hs : Histograms) (c : Context) → Inverted s (bitAt d) → Inverted ((callRead d s hs c) .result .state) (bitAt d)
 unfolding callRead takePlain takeStatic takeDynamic takeNumber
 call-inverted d s hs (plain n) v = taken-inverted d s true true (readPlain n (bitAt d) s) true (plain-on n d s) v
 call-inverted d s hs (static range) v = taken-inverted d s true (ltb 0 range) (readStatic range (bitAt d) s) _ (range-on range d s) v
@@ -47,7 +47,7 @@ call-inverted d s hs (dynamic k) v =
 
 -- ---- where they are, both judge alike
 
-fault-same : (d : List ℕ) (s : Coder) → Inverted s (bitAt d) → readFault false d s ≡ readFault true d s
+pub fault-same : (d : List ℕ) (s : Coder) → Inverted s (bitAt d) → readFault false d s ≡ readFault true d s
 unfolding readFault
 fault-same d s v = rw (inverted-hold s (bitAt d) v)
 
@@ -73,7 +73,7 @@ sums-set [] k h = refl
 sums-set (g ∷ hs) zero h = refl
 sums-set (g ∷ hs) (suc k) h = ap (λ (l : List ℕ). sum g ∷ l) (sums-set hs k h)
 
-call-same : (d : List ℕ) (s : Coder) (hs : Histograms) (c : Context) → Inverted s (bitAt d)
+pub call-same : (d : List ℕ) (s : Coder) (hs : Histograms) (c : Context) → Inverted s (bitAt d)
     → callTake d s hs (map sum hs) c ≡ withTotals (callRead d s hs c)
 unfolding callTake callRead takePlain takeStatic readNumber
 call-same d s hs (plain n) v = rw (fault-same d s v)

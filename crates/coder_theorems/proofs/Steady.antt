@@ -60,14 +60,14 @@ dynamic-grown h x s = go (nextSymbol h x s)
 -- ---- a call
 
 -- a state that the reader takes, of so many bits
-record Steady (d : List ℕ) (s : Coder) (used : ℕ) : Type 0 where
-  small : length d ≤ largestFile
-  reading : Reading s (bitAt d)
-  inverted : Inverted s (bitAt d)
-  few : bits s ≤ used
+pub record Steady (d : List ℕ) (s : Coder) (used : ℕ) : Type 0 where
+  pub small : length d ≤ largestFile
+  pub reading : Reading s (bitAt d)
+  pub inverted : Inverted s (bitAt d)
+  pub few : bits s ≤ used
 
 -- neither 9 nor 18
-abbrev Sound : ℕ → Type 0
+abbrev pub Sound : ℕ → Type 0
 Sound n = (n ≡ overLimit → ⊥) × (n ≡ badState → ⊥)
 
 left-sound : (a b c : Bool) → Sound (unless a outOfRange (unless b truncated (unless c outOfRange 0)))
@@ -138,13 +138,13 @@ taken-formed h d s e = go (takeNumber true (histogramFormed h) d s (readDynamic 
 
 -- ---- calls
 
-record Went (d : List ℕ) (count used : ℕ) (r : ReadCall) : Type 0 where
-  sound : Sound (r .result .number)
-  steady : Steady d (r .result .state) used
-  formed : AllFormed (r .histograms)
-  same : length (r .histograms) ≡ count
+pub record Went (d : List ℕ) (count used : ℕ) (r : ReadCall) : Type 0 where
+  pub sound : Sound (r .result .number)
+  pub steady : Steady d (r .result .state) used
+  pub formed : AllFormed (r .histograms)
+  pub same : length (r .histograms) ≡ count
 
-went : (d : List ℕ) (s : Coder) (hs : Histograms) (c : Context) (used : ℕ) → Steady d s used → AllFormed hs → Present (length hs) c
+pub went : (d : List ℕ) (s : Coder) (hs : Histograms) (c : Context) (used : ℕ) → Steady d s used → AllFormed hs → Present (length hs) c
     → used < 2 ^ 32 → Went d (length hs) (used + mostBits c) (callRead d s hs c)
 unfolding callRead takePlain takeStatic takeDynamic takeNumber
 went d s hs (plain n) used st a p few =
@@ -180,7 +180,7 @@ none-at-fault d (c ∷ cs) s hs count used st a same p few =
     let rest = none-at-fault d cs _ _ count (used + mostBits c) (w .steady) (w .formed) (w .same ∙ same) (p .1) (omega arith) in
     (w .sound .0, w .sound .1, rest)
 
-fresh-steady : (d : List ℕ) → length d ≤ largestFile → Steady d fresh 0
+pub fresh-steady : (d : List ℕ) → length d ≤ largestFile → Steady d fresh 0
 unfolding code
 fresh-steady d small =
     let x = bitAt d in

@@ -11,3 +11,7 @@ largestProgramFile = 0x10000
 
 abbrev pub longestName : ℕ
 longestName = 255
+
+-- "Each pool and the face count 65,536"
+abbrev pub largestCount : ℕ
+largestCount = 0x10000

@@ -8,3 +8,6 @@ pub const LARGEST_PROGRAM_FILE: usize = 65536;
 
 // bytes of a name
 pub const LONGEST_NAME: usize = 255;
+
+// faces of a mesh, and entries of a pool
+pub const LARGEST_COUNT: u32 = 65536;

@@ -1,0 +1,165 @@
+-- Faces that the coder's writer wrote are read back: the round trip says what each of the reader's calls gives, and the reader of faces makes
+-- just these calls, one after the other.
+use Prim.Native.Nat.{ℕ, zero, suc, _+_, _*_, _%_, _≤_}
+use mathlib.Core.Bool.{Bool, true, false}
+use mathlib.Core.List.{List, [], _∷_, _++_, append-assoc, map}
+use mathlib.Core.Path.{_≡_, refl, ap, sym}
+use native.Mathlib.Omega.{arith}
+use borrow.Author.Tests.{lt-leb}
+use lib.Dec.{ltb}
+use lib.ListN.{drop, getD, length, take, take-append-drop}
+use Rattle.fields.specs.Limits.{largestCount}
+use Rattle.fields.specs.Judged.{Judged, done, pick}
+use Rattle.coder.specs.Histogram.{freshHistogram}
+use Rattle.coder.specs.Interval.{fresh}
+use Rattle.coder.specs.Reading.{Taken}
+use Rattle.coder.specs.Writing.{end, freshWriter}
+use Rattle.coder.specs.declared.interval.Coder.{Coder}
+use Rattle.coder_theorems.specs.Runs.{AllDone, AllTyped, Histograms, Number, ReadCall, WriteCall}
+use Rattle.coder_theorems.specs.Runs.{bytesAfter, callRead, contextOf, readBack, readCalls, writeCalls, writerAfter}
+use Rattle.coder_theorems.proofs.RoundTrip.{round-trip}
+use Rattle.mesh.specs.Shading.{shadingLimit}
+use Rattle.mesh.specs.Corners.{absent, cornerFields, faceWords, fieldContext, formOf, present, rangeOf, shadingContext}
+use Rattle.mesh.specs.Faces.{Coded, codedNumber, cornersFrom, faceFrom, facesFrom, facesOf, fieldFrom, shadingFrom}
+use Rattle.mesh.specs.declared.declaration.Declaration.{Declaration}
+use Rattle.mesh.specs.declared.faces.CornerForm.{CornerForm}
+use Rattle.mesh_theorems.specs.Below.{CornersBelow, FaceBelow, FacesBelow, FieldBelow}
+use Rattle.mesh_theorems.specs.FaceNumbers.{cornerNumbers, faceNumbers, facesNumbers, fieldNumber}
+
+-- ---- calls that give these numbers
+
+-- each call is done and gives its number
+Gives : List ℕ → Coder → Histograms → List Number → Type 0
+Gives d s hs [] = Unit {0}
+Gives d s hs (x ∷ xs) =
+    let r : ReadCall = callRead d s hs (x .context) in
+    (codedNumber (r .result) ≡ done (record { value = x .value; state = r .result .state })) × Gives d (r .result .state) (r .histograms) xs
+
+first-given : (r : ReadCall) (v : ℕ) (t : Coder) (hs : Histograms)
+    → r ≡ record { result = record { number = 0; done = true; value = v; state = t }; histograms = hs }
+    → codedNumber (r .result) ≡ done (record { value = v; state = r .result .state })
+first-given r v t hs e = rw e
+
+calls-give : (d : List ℕ) (ns : List Number) (s : Coder) (hs : Histograms) (calls : List WriteCall)
+    → readCalls d s hs (map contextOf ns) ≡ readBack ns calls → Gives d s hs ns
+unfolding readCalls readBack Gives
+calls-give d [] s hs calls e = tt
+calls-give d (x ∷ xs) s hs [] e = let z : _≡_ {A = ℕ} 0 1 = cc in absurd (omega arith)
+calls-give d (x ∷ xs) s hs (c ∷ calls) e =
+    let r = callRead d s hs (x .context) in
+    let given : Taken = record { number = 0; done = true; value = x .value; state = c .result .writer .coder } in
+    let first : r ≡ record { result = given; histograms = c .histograms } = cc in
+    let rest : readCalls d (r .result .state) (r .histograms) (map contextOf xs) ≡ readBack xs calls = cc in
+    (first-given r (x .value) _ _ first, calls-give d xs (r .result .state) (r .histograms) calls rest)
+
+-- ---- a field
+
+-- a value, and from the state after it the calls that give what is left
+Leads : {A : Type 0} → Judged (Coded A) → A → List ℕ → Histograms → List Number → Type 0
+Leads j v d hs rest = (t : Coder) × (j ≡ done (record { value = v; state = t })) × Gives d t hs rest
+
+field-back : (form : CornerForm) (field w : ℕ) (d : List ℕ) (s : Coder) (hs : Histograms) (rest : List Number)
+    → FieldBelow (present form field) w (rangeOf form field)
+    → Gives d s hs (pick (present form field) (fieldNumber form field w ∷ []) [] ++ rest)
+    → Leads (fieldFrom form field d s) w d hs rest
+unfolding fieldFrom callRead Gives Leads
+field-back form field w d s hs rest b g = go (present form field) b g
+  where
+    go : (p : Bool) → FieldBelow p w (rangeOf form field) → Gives d s hs (pick p (fieldNumber form field w ∷ []) [] ++ rest)
+        → Leads (pick p (codedNumber (callRead d s [] (fieldContext form field) .result)) (done (record { value = absent; state = s }))) w d hs rest
+    go true b g = (_, g .0, g .1)
+    go false b g = (s, rw b refl, g)
+
+-- ---- the corners of a face
+
+corners-back : (form : CornerForm) (d : List ℕ) (ws : List ℕ) (n : ℕ) (s : Coder) (hs : Histograms) (rest : List Number)
+    → CornersBelow form n ws → Gives d s hs (cornerNumbers form n ws ++ rest) → Leads (cornersFrom form (length ws) n d s) ws d hs rest
+unfolding cornersFrom CornersBelow cornerNumbers Leads
+corners-back form d [] n s hs rest b g = (s, refl, g)
+corners-back form d (w ∷ ws) n s hs rest b g =
+    let field = n % cornerFields in
+    let f = field-back form field w d s hs (cornerNumbers form (suc n) ws ++ rest) (b .0) (rw append-assoc at g) in
+    let r = corners-back form d ws (suc n) (f .0) hs rest (b .1) (f .2) in
+    (r .0, rw (f .1, r .1) refl, r .2)
+
+-- ---- a face
+
+face-back : (declaration : Declaration) (counts words d : List ℕ) (s : Coder) (hs : Histograms) (rest : List Number)
+    → FaceBelow declaration counts words → Gives d s hs (faceNumbers declaration counts words ++ rest)
+    → Leads (faceFrom declaration counts hs d s) words d (callRead d s hs shadingContext .histograms) rest
+unfolding faceFrom shadingFrom FaceBelow faceNumbers Gives Leads
+face-back declaration counts [] d s hs rest b g = absurd b
+face-back declaration counts (shading ∷ corners) d s hs rest b g =
+    let r = callRead d s hs shadingContext in
+    let form = formOf declaration counts shading in
+    let c = corners-back form d corners 0 (r .result .state) (r .histograms) rest (b .2) (g .1) in
+    let read : cornersFrom form (3 * cornerFields) 0 d (r .result .state) ≡ done (record { value = corners; state = c .0 }) = rw (b .1) at (c .1) in
+    (c .0, rw (g .0, lt-leb (declaration .«shading_count») shading (b .0), read) refl, c .2)
+
+-- ---- faces
+
+faces-back : (declaration : Declaration) (counts : List ℕ) (n : ℕ) (words d : List ℕ) (s : Coder) (hs : Histograms)
+    → FacesBelow declaration counts n words → Gives d s hs (facesNumbers declaration counts n words)
+    → facesFrom declaration counts n hs d s ≡ done words
+unfolding facesFrom FacesBelow facesNumbers Leads
+faces-back declaration counts zero words d s hs b g = ap done (sym b)
+faces-back declaration counts (suc left) words d s hs b g =
+    let own = take faceWords words in
+    let rest = drop faceWords words in
+    let hs′ = callRead d s hs shadingContext .histograms in
+    let f = face-back declaration counts own d s hs (facesNumbers declaration counts left rest) (b .0) g in
+    let r = faces-back declaration counts left rest d (f .0) hs′ (b .1) (f .2) in
+    rw (f .1, r) (ap done (take-append-drop faceWords words))
+
+-- ---- every number is one of its call's type
+
+typed-append : (xs ys : List Number) → AllTyped xs → AllTyped ys → AllTyped (xs ++ ys)
+unfolding AllTyped
+typed-append [] ys a b = b
+typed-append (x ∷ xs) ys a b = (a .0, typed-append xs ys (a .1) b)
+
+field-typed : (form : CornerForm) (field w : ℕ) → rangeOf form field ≤ largestCount → (p : Bool) → FieldBelow p w (rangeOf form field)
+    → AllTyped (pick p (fieldNumber form field w ∷ []) [])
+unfolding AllTyped
+field-typed form field w small true b = (omega arith, tt)
+field-typed form field w small false b = tt
+
+corners-typed : (form : CornerForm) (ws : List ℕ) (n : ℕ) → ((field : ℕ) → rangeOf form field ≤ largestCount) → CornersBelow form n ws
+    → AllTyped (cornerNumbers form n ws)
+unfolding AllTyped CornersBelow cornerNumbers
+corners-typed form [] n small b = tt
+corners-typed form (w ∷ ws) n small b =
+    let field = n % cornerFields in
+    typed-append (pick (present form field) (fieldNumber form field w ∷ []) []) (cornerNumbers form (suc n) ws)
+    (field-typed form field w (small field) (present form field) (b .0)) (corners-typed form ws (suc n) small (b .1))
+
+module _ (declaration : Declaration) (counts : List ℕ) (few : declaration .«shading_count» ≤ shadingLimit)
+    (small : (i : ℕ) → getD counts i 0 ≤ largestCount) where
+  face-typed : (words : List ℕ) → FaceBelow declaration counts words → AllTyped (faceNumbers declaration counts words)
+  unfolding AllTyped FaceBelow faceNumbers rangeOf
+  face-typed [] b = absurd b
+  face-typed (shading ∷ corners) b =
+      (omega arith, corners-typed (formOf declaration counts shading) corners 0 (λ field. small (pick (ltb field 4) (field + 1) 5)) (b .2))
+
+  faces-typed : (n : ℕ) (words : List ℕ) → FacesBelow declaration counts n words → AllTyped (facesNumbers declaration counts n words)
+  unfolding AllTyped FacesBelow facesNumbers
+  faces-typed zero words b = tt
+  faces-typed (suc left) words b =
+      let own = take faceWords words in
+      let rest = drop faceWords words in
+      typed-append (faceNumbers declaration counts own) (facesNumbers declaration counts left rest)
+      (face-typed own (b .0)) (faces-typed left rest (b .1))
+
+-- Face records within the mesh, whose numbers the writer all wrote, and then ended, are read back from the bytes that the end says are used.
+pub faces-read-back : (declaration : Declaration) (counts : List ℕ) (n : ℕ) (words l : List ℕ) → FacesBelow declaration counts n words
+    → declaration .«shading_count» ≤ shadingLimit → ((i : ℕ) → getD counts i 0 ≤ largestCount)
+    → (let numbers = facesNumbers declaration counts n words in
+    let calls = writeCalls l freshWriter (freshHistogram ∷ []) numbers in
+    let ended = end (bytesAfter l calls) (writerAfter freshWriter calls) in
+    AllDone calls → ended .number ≡ 0 → facesOf declaration counts n (take (ended .used) (ended .bytes)) ≡ done words)
+unfolding facesOf
+faces-read-back declaration counts n words l b few small a e =
+    let numbers = facesNumbers declaration counts n words in
+    let hs = freshHistogram ∷ [] in
+    let back = round-trip numbers hs l (faces-typed declaration counts few small n words b) a e in
+    faces-back declaration counts n words _ fresh hs b (calls-give _ numbers fresh hs _ back)
