@@ -10,7 +10,7 @@ from pathlib import Path
 sys.dont_write_bytecode = True
 
 from u3d import (  # noqa: E402 (after the setting above)
-    block_files, blocks, coder_calls, coder_files, coder_refusals)
+    block_files, blocks, coder_calls, coder_files, coder_refusals, mesh, mesh_files)
 
 CRATES = Path("crates")
 
@@ -100,6 +100,73 @@ def call_report(name, calls):
         sys.exit("%s: %s" % (name, differs))
 
 
+def mesh_runs():
+    """Everything that a mesh's read hands out, for each pair of parts."""
+    cases = mesh_files.cases() + mesh_files.mutants()
+    inputs = [(case.name, mesh_files.stored(case)) for case in cases]
+    stdout = lines("\t".join(map(str, fields)) for case in cases for fields in mesh_report(case))
+    return run_files("mesh_runs", inputs, stdout)
+
+
+def mesh_report(case):
+    """The lines of one file. The reader must agree with the answer worked out by hand."""
+    found = mesh.read_mesh(case.declaration, case.continuation, mesh_files.filled(case.lengths))
+    answer = found.number, found.part, found.place
+    if answer != (case.number, case.part, case.place):
+        sys.exit("%s: %s, by hand %s" % (case.name, answer, case[1:4]))
+    yield "file", case.name
+    yield declaration_fields(case.declaration)
+    yield "mesh", *answer, *found.counts, found.shading_count
+    for name, table in zip(mesh.TABLES, found.tables):
+        yield "table", name, len(table), "%08x" % checksum(table)
+    if found.counts[mesh.FACES] <= 8:
+        for face in range(found.counts[mesh.FACES]):
+            yield "face", *found.tables[mesh.FACES][face * mesh.FACE_SIZE:][:mesh.FACE_SIZE]
+    if case.cut:
+        yield from cut_fields(case)
+
+
+def declaration_fields(data):
+    """The declaration's answer, and every field that it hands out, in file order."""
+    number, place, found = mesh.read_declaration(data)
+    shadings = [field for shading in found.shadings for field in shading_fields(shading)]
+    return ("declaration", number, place, len(found.name), found.chain_index, found.attributes,
+            *found.counts, len(found.shadings), *shadings, found.minimum_resolution,
+            found.maximum_resolution, *found.quality_factors, *found.inverse_quants,
+            *found.normal_parameters, found.bone_count)
+
+
+def shading_fields(shading):
+    """Dimensions of layers that a shading does not have are 0."""
+    layers = len(shading.dimensions)
+    unused = (0,) * (mesh.LAYER_LIMIT - layers)
+    return shading.attributes, layers, *shading.dimensions, *unused, shading.original_id
+
+
+def checksum(table):
+    total = 2166136261
+    for word in table:
+        total = (total * 16777619 + word) % 2 ** 32
+    return total
+
+
+def cut_fields(case):
+    """The answers for each part cut at every length, the other whole."""
+    whole = case.declaration, case.continuation
+    for part in (mesh.DECLARATION, mesh.CONTINUATION):
+        for length in range(len(whole[part]) + 1):
+            pair = list(whole)
+            pair[part] = pair[part][:length]
+            found = mesh.read_mesh(*pair, mesh_files.filled(case.lengths))
+            yield "cut", part, length, found.number, found.part, found.place
+
+
+def read_mesh():
+    """The program for people on one sample."""
+    data = mesh_files.sample()
+    return run_files("read_mesh", [("sample.u3d", data)], mesh.listing(data))
+
+
 def write(files):
     for path, data in files.items():
         path.parent.mkdir(parents=True, exist_ok=True)
@@ -122,7 +189,7 @@ def differences(files):
 def main(arguments):
     if arguments not in ([], ["--check"]):
         sys.exit("usage: make_runs.py [--check]")
-    files = {**list_blocks(), **walk_runs(), **cut_runs(), **coder_runs()}
+    files = {**list_blocks(), **walk_runs(), **cut_runs(), **coder_runs(), **mesh_runs(), **read_mesh()}
     if not arguments:
         write(files)
         return 0
