@@ -4,15 +4,13 @@
    size, outside the time taken. The run ends where the two disagree in number, place,
    block count or any row. */
 
+#include "library.h"
 #include "plain_walk.h"
 
 #include <stdio.h>
 #include <stdlib.h>
 #include <string.h>
 #include <time.h>
-
-extern uint32_t oysterfold_walk(const uint8_t *file, size_t file_len, uint32_t *rows,
-                                size_t rows_len, uint64_t *result, size_t result_len);
 
 #define GROUP_NODE 0xFFFFFF21u
 #define CHAIN 0xFFFFFF14u

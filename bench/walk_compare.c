@@ -5,15 +5,13 @@
    place, block count and rows must agree; the library must leave the table as it was past
    the rows, and all of it after a refusal. Prints how often each number was given. */
 
+#include "library.h"
 #include "plain_walk.h"
 
 #include <dirent.h>
 #include <stdio.h>
 #include <stdlib.h>
 #include <string.h>
-
-extern uint32_t oysterfold_walk(const uint8_t *file, size_t file_len, uint32_t *rows,
-                                size_t rows_len, uint64_t *result, size_t result_len);
 
 enum { MOST_FILES = 512, MOST_BYTES = 8192, MOST_WORDS = 4096, NUMBERS = 19, HEADER_END = 36 };
 

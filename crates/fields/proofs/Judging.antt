@@ -17,6 +17,10 @@ use Rattle.fields.specs.Name.{stringAt, nameAt}
 pub not-done : {A C : Type 0} {n p : ℕ} {a : A} → refused n p ≡ done a → C
 not-done e = let z : _≡_ {A = ℕ} 0 1 = cc in absurd (omega arith)
 
+-- values that are judged the same are the same
+pub same-done : {A : Type 0} {a b : A} → done a ≡ done b → a ≡ b
+same-done e = cc
+
 -- a value that follows from another
 pub value-before : {A B : Type 0} (j : Judged A) (next : A → Judged B) (b : B) → onDone j next ≡ done b
     → (a : A) × (j ≡ done a) × (next a ≡ done b)

@@ -6,7 +6,7 @@ use native.Mathlib.Omega.{arith}
 use lib.ListN.{drop, length, length-drop, length-replicate, replicate, take}
 use lib.Seq.{length-sets, sets, sets-eq, take-all, take-at}
 use Rattle.fields.specs.Judged.{Judged, done, refused, onDone}
-use Rattle.fields.proofs.Judging.{not-done}
+use Rattle.fields.proofs.Judging.{not-done, same-done}
 use Rattle.fields.specs.declared.numbers.Refusal.{Refusal}
 use Rattle.mesh.specs.Run.{Ended, filled}
 use Rattle.mesh.specs.Inside.{endedGiven}
@@ -60,8 +60,5 @@ to-end s a = take-all (length s - a) (drop a s) (omega (arith, length-drop a s))
 
 -- the value of an answer that is done
 pub ended-value : {A : Type 0} (next : Next) (value : A) (r : Ended A) → endedGiven next value ≡ done r → value ≡ r .value
-ended-value {A} (At at) value r e = ap (λ (x : Ended A). x .value) (the-same e)
-  where
-    the-same : {a b : Ended A} → done a ≡ done b → a ≡ b
-    the-same f = cc
+ended-value {A} (At at) value r e = ap (λ (x : Ended A). x .value) (same-done e)
 ended-value (Refused e) value r f = not-done f

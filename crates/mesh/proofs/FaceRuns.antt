@@ -11,7 +11,7 @@ use lib.ListN.{length, length-append, set}
 use lib.Seq.{sets}
 use Rattle.fields.specs.Judged.{Judged, done, refused}
 use Rattle.fields.specs.Numbers.{outOfRange}
-use Rattle.fields.proofs.Judging.{not-done, passed, refusal-before, value-before}
+use Rattle.fields.proofs.Judging.{not-done, passed, refusal-before, same-done, value-before}
 use Rattle.coder.specs.Bytes.{bitAt}
 use Rattle.coder.specs.Histogram.{Histogram, freshHistogram, sum}
 use Rattle.coder.specs.Interval.{Inverted, fresh}
@@ -33,10 +33,7 @@ use Rattle.mesh.proofs.Chains.{on-mapped}
 pub corners-length : (form : CornerForm) (left n : ℕ) (d : List ℕ) (s : Coder) (r : Coded (List ℕ)) → cornersFrom form left n d s ≡ done r
     → length (r .value) ≡ left
 unfolding cornersFrom
-corners-length form zero n d s r e = ap (λ (c : Coded (List ℕ)). length (c .value)) (sym (the-same e))
-  where
-    the-same : {a b : Coded (List ℕ)} → done a ≡ done b → a ≡ b
-    the-same f = cc
+corners-length form zero n d s r e = ap (λ (c : Coded (List ℕ)). length (c .value)) (sym (same-done e))
 corners-length form (suc left) n d s r e =
     let f = value-before (fieldFrom form (n % cornerFields) d s) _ r e in
     let g = value-before (cornersFrom form left (suc n) d (f .0 .state)) _ r (f .2) in

@@ -17,6 +17,7 @@ use Rattle.mesh.specs.Run.{runAt, valuesOf}
 use Rattle.mesh.specs.Declaration.{meshName}
 use Rattle.mesh.specs.Base.{baseRules, headOf, same}
 use Rattle.mesh.specs.declared.declaration.Declaration.{Declaration}
+use Rattle.mesh.proofs.Rooms.{and-false}
 
 module _ (i : ℕ) (a b : List ℕ) (lengths : length a ≡ length b) where
   pub same-more : i < length a → getD a i 0 ≡ getD b i 0 → same (drop i a) (drop i b) ≡ same (drop (i + 1) a) (drop (i + 1) b)
@@ -36,10 +37,6 @@ module _ (i : ℕ) (a b : List ℕ) (lengths : length a ≡ length b) where
   same-none h =
       let h′ : length b ≤ i = omega arith in
       rw (drop-of-length-le a h, drop-of-length-le b h′)
-
-and-false : (t : Bool) → (t && false) ≡ false
-and-false true = refl
-and-false false = refl
 
 -- names of other lengths are not
 pub same-lengths : (a b : List ℕ) → (length a ≡ length b → ⊥) → same a b ≡ false

@@ -11,6 +11,7 @@ use mir.Val.{Fits}
 use mir.Syntax.{w32}
 use lib.ListN.{getD, length, length-set, replicate, set, take}
 use lib.Seq.{take-all, take-suc-set}
+use Rattle.coder.proofs.Tests.{and-both}
 use Rattle.mesh.specs.Base.{every, widths, wordsIn}
 use Rattle.mesh.specs.Inside.{wordsBefore}
 
@@ -38,13 +39,9 @@ before-more counts i sum words e f = rw (add-one, wordsBefore, e, f, add-one)
 
 -- ---- the test for room
 
-and-false : (t : Bool) → (t && false) ≡ false
+pub and-false : (t : Bool) → (t && false) ≡ false
 and-false true = refl
 and-false false = refl
-
-and-both : (t u : Bool) → (t && u) ≡ true → (t ≡ true) × (u ≡ true)
-and-both true u e = (refl, e)
-and-both false u e = let z : _≡_ {A = ℕ} 0 1 = cc in absurd (omega arith)
 
 pub every-more : (test : ℕ → Bool) (n : ℕ) → every test n ≡ true → test n ≡ true → every test (n + 1) ≡ true
 unfolding every

@@ -50,7 +50,7 @@ baseRules declaration =
     stated : ℕ → ℕ
     stated i = getD (declaration .counts) i 0
 
--- the six base counts, and where the pools start; a name unlike the declaration's is 8
+-- the six base counts, and where the pools start, after the name and seven fields; a name unlike the declaration's is 8
 unfoldable pub headOf : List ℕ → List ℕ → Declaration → Judged (Ended (List ℕ))
 headOf s name declaration =
     onDone (nameAt s 0) λ size.

@@ -58,7 +58,7 @@ declarationWith size head shadings tail = record {
   «bone_count» = getD tail 13 0;
 }
 
--- a declaration's data
+-- a declaration's data: the name takes its size and 2 bytes, the nine fields after it 36, the fourteen last ones 56
 unfoldable pub declarationOf : List ℕ → Judged Declaration
 declarationOf s =
     refusedIf (ltb largestFile (length s)) overLimit 0

@@ -75,9 +75,6 @@ rulesFrom table i (suc n) = ruleAt table i ∷ rulesFrom table (suc i) n
 abbrev pub storedRun : List ℕ → ℕ → ℕ → Judged (List ℕ) → Judged (Ended (List ℕ))
 storedRun table i next run = onDone run λ values. done (record { value = sets table i values; next = next })
 
-abbrev pub runGiven : Next → List ℕ → Judged (Ended (List ℕ))
-runGiven = endedGiven
-
 -- shadings stored from index i on
 abbrev pub storedShadings : List Shading → ℕ → Judged (Ended (List Shading)) → Judged (Ended (List Shading))
 storedShadings table i run = onDone run λ read. done (record { value = sets table i (read .value); next = read .next })

@@ -133,7 +133,7 @@ pub struct DeclarationRead {
 pub fn mesh_name(s: &[u8]) -> &[u8]
     ensures { λ r. ⌜ now r ≡ meshName (now (s .entry)) ⌝ }
 {
-    if LARGEST_FILE < s.len() {
+    if s.len() > LARGEST_FILE {
         return &s[..0];
     }
     name_part(s, 0)

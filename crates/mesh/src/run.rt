@@ -12,7 +12,7 @@ ghost use mathlib.Core.Path.{_≡_};
 ghost use Prim.Native.Nat.{_+_, _*_, _≤_, _<_};
 ghost use lib.ListN.{length};
 ghost use Rattle.mesh.specs.Run.{ruledAt, runAt};
-ghost use Rattle.mesh.specs.Inside.{fieldGiven, nameEnd, nextGiven, ruleAt, rulesFrom, runGiven, storedRun};
+ghost use Rattle.mesh.specs.Inside.{endedGiven, fieldGiven, nameEnd, nextGiven, ruleAt, rulesFrom, storedRun};
 
 // The largest U32: a field with this limit is not judged.
 pub(crate) const ANY: u32 = 0xFFFFFFFF;
@@ -117,7 +117,7 @@ pub(crate) fn read_run(
     values: &mut [u32],
 ) -> Next
     requires { ⌜ (count ≤ length (now values)) × (count < 0x1000000) ⌝ }
-    ensures { λ r. ⌜ runGiven r (now (values .exit)) ≡ storedRun (now (values .entry)) 0 (from + 4 * count) (runAt (rulesFrom (now (table .entry)) 0 count) (now (s .entry)) from) ⌝ }
+    ensures { λ r. ⌜ endedGiven r (now (values .exit)) ≡ storedRun (now (values .entry)) 0 (from + 4 * count) (runAt (rulesFrom (now (table .entry)) 0 count) (now (s .entry)) from) ⌝ }
 {
     let mut at = from;
     let mut i = 0;

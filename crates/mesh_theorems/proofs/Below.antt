@@ -11,7 +11,7 @@ use lib.ListN.{drop, getD, length, length-append, take, take-append-drop}
 use lib.Seq.{drop-at, take-at}
 use Rattle.fields.specs.Judged.{Judged, done, refused, pick}
 use Rattle.fields.specs.Numbers.{noRoom, outOfRange}
-use Rattle.fields.proofs.Judging.{not-done, passed, value-before}
+use Rattle.fields.proofs.Judging.{not-done, passed, same-done, value-before}
 use Rattle.coder.specs.Reading.{Taken, takeStatic, taken}
 use Rattle.coder.specs.declared.interval.Coder.{Coder}
 use Rattle.coder.specs.declared.read.Found.{Found}
@@ -28,10 +28,6 @@ use Rattle.mesh.specs.declared.faces.CornerForm.{CornerForm}
 use Rattle.mesh_theorems.specs.Below.{CornersBelow, FaceBelow, FacesBelow, FieldBelow}
 
 -- ---- a field
-
--- Values that were judged the same are the same.
-pub same-done : {A : Type 0} {a b : A} → done a ≡ done b → a ≡ b
-same-done e = cc
 
 -- a number that the coder read was done
 coded-done : (t : Taken) (c : Coded ℕ) → codedNumber t ≡ done c → (t .done ≡ true) × (t .value ≡ c .value)

@@ -9,12 +9,11 @@ use Rattle.fields.specs.Limits.{largestCount}
 use Rattle.fields.specs.Numbers.{badName}
 use Rattle.fields.specs.Judged.{done}
 use Rattle.fields.specs.Name.{nameAt, namePart}
-use Rattle.fields.proofs.Judging.{passed, value-before}
+use Rattle.fields.proofs.Judging.{passed, same-done, value-before}
 use Rattle.mesh.specs.Run.{Ended, runAt, unjudged, valuesOf}
 use Rattle.mesh.specs.Base.{baseRules, headOf, same}
 use Rattle.mesh.specs.declared.declaration.Declaration.{Declaration}
 use Rattle.mesh.proofs.Runs.{run-limited}
-use Rattle.mesh_theorems.proofs.Below.{same-done}
 
 -- Every base count is at most 65,536.
 pub counts-small : (s name : List ℕ) (declaration : Declaration) (head : Ended (List ℕ)) → headOf s name declaration ≡ done head

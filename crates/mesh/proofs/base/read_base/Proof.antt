@@ -10,7 +10,7 @@ use Rattle.mesh.proofs.base.read_base.Statement.{statement}
 use Rattle.mesh.proofs.base.read_base.Tie as tie
 
 judge-base-requires : tie.Need-judge-base-requires
-judge-base-requires c κs = search needs
+judge-base-requires c κs = c .before .before .before .before .before .before .before .before .pre
 
 enum-known-next : tie.Need-enum-known-next
 enum-known-next c = search needs
@@ -58,22 +58,22 @@ counts-of-requires : tie.Need-counts-of-requires
 counts-of-requires c κs = search needs
 
 same-length : tie.Need-same-length
-same-length c = search needs
+same-length c = c .before .before .before .fill-faces .kept .1 .1 .1 .1 .0
 
 same-length-2 : tie.Need-same-length-2
 same-length-2 c = c .before .before .before .before .before .before .before .before .before .before .before .before .before .before .before .before .before .before .before .before .before .before .before .fill-pool .kept .1 .1 .1 .1 .0
 
 same-length-3 : tie.Need-same-length-3
-same-length-3 c = search needs
+same-length-3 c = c .before .before .before .before .before .before .before .before .before .before .before .before .before .before .before .before .before .before .before .fill-pool2 .kept .1 .1 .1 .1 .0
 
 same-length-4 : tie.Need-same-length-4
-same-length-4 c = search needs
+same-length-4 c = c .before .before .before .before .before .before .before .before .before .before .before .before .before .before .before .fill-pool3 .kept .1 .1 .1 .1 .0
 
 same-length-5 : tie.Need-same-length-5
-same-length-5 c = search needs
+same-length-5 c = c .before .before .before .before .before .before .before .before .before .before .before .fill-pool4 .kept .1 .1 .1 .1 .0
 
 same-length-6 : tie.Need-same-length-6
-same-length-6 c = search needs
+same-length-6 c = c .before .before .before .before .before .before .before .fill-pool5 .kept .1 .1 .1 .1 .0
 
 returns-2 : tie.Need-returns-2
 returns-2 c =

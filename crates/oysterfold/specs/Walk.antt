@@ -1,4 +1,4 @@
--- What an exported function hands back: 01's number, and place and value in the result's first two words.
+-- What the exported walk hands back: 01's number, and place and value in the result's first two words.
 use Prim.Native.Nat.{ℕ}
 use mathlib.Core.List.{List, [], _∷_}
 use lib.Dec.{ltb}
