@@ -17,6 +17,7 @@
 
 #include "library.h"
 #include "make_mesh.h"
+#include "memory.h"
 
 #include <stdio.h>
 #include <stdlib.h>
@@ -230,15 +231,6 @@ static void run_case(const Case *job, Mesh *mesh, Side *plain, Side *library) {
     if (memcmp(mesh->written, plain->tables[FACES].numbers, numbers * sizeof(uint32_t)) != 0)
         stop(job, "not the faces that were written", plain, library);
     print_row(job, mesh, plain->best, library->best);
-}
-
-static void *room(size_t bytes) {
-    void *memory = malloc(bytes);
-    if (memory == NULL) {
-        fputs("no memory\n", stderr);
-        exit(2);
-    }
-    return memory;
 }
 
 static Side new_side(void) {

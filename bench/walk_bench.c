@@ -5,6 +5,7 @@
    block count or any row. */
 
 #include "library.h"
+#include "memory.h"
 #include "plain_walk.h"
 
 #include <stdio.h>
@@ -165,15 +166,6 @@ static int compare(const File *file, Side *plain, Side *library, size_t rows_len
            (unsigned long long)plain->result[1], megabytes / plain->best,
            megabytes / library->best, library->best / plain->best);
     return 1;
-}
-
-static void *room(size_t bytes) {
-    void *memory = malloc(bytes);
-    if (memory == NULL) {
-        fputs("no memory\n", stderr);
-        exit(2);
-    }
-    return memory;
 }
 
 int main(void) {
