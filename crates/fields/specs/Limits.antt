@@ -15,3 +15,13 @@ longestName = 255
 -- "Each pool and the face count 65,536"
 abbrev pub largestCount : ℕ
 largestCount = 0x10000
+
+-- "Climb: 4,096 steps, 64 moves and 64 new faces in each"
+abbrev pub mostSteps : ℕ
+mostSteps = 4096
+
+abbrev pub mostMoves : ℕ
+mostMoves = 64
+
+abbrev pub mostNewFaces : ℕ
+mostNewFaces = 64

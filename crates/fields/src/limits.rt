@@ -11,3 +11,12 @@ pub const LONGEST_NAME: usize = 255;
 
 // faces of a mesh, and entries of a pool
 pub const LARGEST_COUNT: u32 = 65536;
+
+// steps of a climb list
+pub const MOST_STEPS: u32 = 4096;
+
+// moves of a step
+pub const MOST_MOVES: u32 = 64;
+
+// new faces of a step
+pub const MOST_NEW_FACES: u32 = 64;
