@@ -60,9 +60,13 @@ headOf s name declaration =
 
 -- ---- tables and pools
 
+-- "positions 3" numbers each
+abbrev pub positionWords : ℕ
+positionWords = 3
+
 -- the numbers of an entry in each table: faces, positions, normals, diffuse colors, specular colors, texture coordinates
 abbrev pub widths : List ℕ
-widths = faceWords ∷ 3 ∷ 3 ∷ 4 ∷ 4 ∷ 4 ∷ []
+widths = faceWords ∷ positionWords ∷ 3 ∷ 4 ∷ 4 ∷ 4 ∷ []
 
 abbrev pub tableCount : ℕ
 tableCount = 6

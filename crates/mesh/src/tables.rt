@@ -10,8 +10,11 @@ ghost use Rattle.mesh.specs.Inside.{wordsBefore};
 // The six tables: faces, and the pools of positions, normals, diffuse colors, specular colors and texture coordinates.
 pub(crate) const TABLES: usize = 6;
 
+// The words of a position.
+pub const POSITION_WORDS: usize = 3;
+
 // The words of an entry in each table.
-const WIDTHS: [usize; TABLES] = [FACE_WORDS, 3, 3, 4, 4, 4];
+const WIDTHS: [usize; TABLES] = [FACE_WORDS, POSITION_WORDS, 3, 4, 4, 4];
 
 // Stores a word where there is room.
 pub(crate) fn put(table: &mut [u32], i: usize, value: u32)

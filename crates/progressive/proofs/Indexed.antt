@@ -1,0 +1,161 @@
+-- Laws of `all`, `writes` and `shows`: what a bounded test tells, and that stores at distinct indices can be read back, leave the rest as it was
+-- and are undone by the stores of what stood there.
+-- Assumes nothing.
+use mathlib.Core.Path.{_≡_, refl, sym, ap, _∙_}
+use mathlib.Core.Logic.{_≢_, _⊎_, inl, inr, ⊎-elim}
+use mathlib.Core.Bool.{Bool, true, false, _&&_, not}
+use mathlib.Core.List.{List}
+use Prim.Native.Nat.{ℕ, zero, suc, _+_, _<_, _≤_}
+use native.Mathlib.Numerals.{add-one}
+use native.Mathlib.Nat.{not-suc-le-zero}
+use native.Mathlib.Decide.{ℕ-discrete}
+use native.Mathlib.Omega.{arith}
+use borrow.Author.Tests.{eqb-true, eq-eqb, ne-eqb}
+use lib.Dec.{eqb}
+use lib.ListN.{length, getD, set, length-set}
+use lib.Seq.{getD-set-same, getD-set-other, set-getD, set-set, set-comm}
+use Rattle.fields.specs.Judged.{pick}
+use Rattle.progressive.specs.Indexed.{all, shows, writes}
+
+pub and-left : (a b : Bool) → a && b ≡ true → a ≡ true
+and-left true b e = refl
+and-left false b e = e
+
+pub and-right : (a b : Bool) → a && b ≡ true → b ≡ true
+and-right true b e = e
+and-right false b e = let z : _≡_ {A = Bool} true false = sym e in cc
+
+-- an index below n + 1 is below n or is n
+pub below-or-last : (i n : ℕ) → i < suc n → (i < n) ⊎ (i ≡ n)
+below-or-last i n h = go (ℕ-discrete i n)
+  where
+    go : Dec (i ≡ n) → (i < n) ⊎ (i ≡ n)
+    go (yes q) = inr q
+    go (no q) = inl (omega arith)
+
+pub all-at : (p : ℕ → Bool) (n i : ℕ) → all p n ≡ true → i < n → p i ≡ true
+all-at p zero i e h = absurd (not-suc-le-zero h)
+all-at p (suc n) i e h =
+    ⊎-elim (λ b. all-at p n i (and-left (all p n) (p n) e) b) (λ q. ap p q ∙ and-right (all p n) (p n) e) (below-or-last i n h)
+
+pub all-true : (p : ℕ → Bool) (n : ℕ) → ((i : ℕ) → i < n → p i ≡ true) → all p n ≡ true
+all-true p zero h = refl
+all-true p (suc n) h = rw (all-true p n (λ i l. h i (omega arith)), h n (omega arith))
+
+-- no two of the first n indices are the same
+abbrev pub Distinct : (ℕ → ℕ) → ℕ → Type 0
+Distinct ix n = (i j : ℕ) → i < j → j < n → ix j ≢ ix i
+
+-- k is none of the first n indices
+abbrev pub Apart : (ℕ → ℕ) → ℕ → ℕ → Type 0
+Apart ix n k = (i : ℕ) → i < n → k ≢ ix i
+
+pub length-writes : (ix val : ℕ → ℕ) (l : List ℕ) (n : ℕ) → length (writes ix val l n) ≡ length l
+length-writes ix val l zero = refl
+length-writes ix val l (suc n) = length-set (writes ix val l n) (ix n) (val n) ∙ length-writes ix val l n
+
+-- what stands at another index stays
+pub getD-apart : (ix val : ℕ → ℕ) (l : List ℕ) (n k : ℕ) → Apart ix n k → getD (writes ix val l n) k 0 ≡ getD l k 0
+getD-apart ix val l zero k h = refl
+getD-apart ix val l (suc n) k h =
+    getD-set-other (writes ix val l n) (ix n) k (val n) 0 (h n (omega arith))
+    ∙ getD-apart ix val l n k (λ i b. h i (omega arith))
+
+-- what was stored is read back
+pub getD-writes : (ix val : ℕ → ℕ) (l : List ℕ) (n i : ℕ) → Distinct ix n → i < n → ix i < length l → getD (writes ix val l n) (ix i) 0 ≡ val i
+getD-writes ix val l zero i d b inside = absurd (not-suc-le-zero b)
+getD-writes ix val l (suc n) i d b inside =
+    ⊎-elim
+    (λ c.
+    getD-set-other (writes ix val l n) (ix n) (ix i) (val n) 0 (λ e. d i n c (omega arith) (sym e))
+    ∙ getD-writes ix val l n i (λ a b x y. d a b x (omega arith)) c inside)
+    (λ q.
+    let kept : length (writes ix val l n) ≡ length l = length-writes ix val l n in
+    let last : ix n < length l = rw q at inside in
+    rw q (getD-set-same (writes ix val l n) (ix n) (val n) 0 (omega arith)))
+    (below-or-last i n b)
+
+pub shows-writes : (ix val : ℕ → ℕ) (l : List ℕ) (n : ℕ) → Distinct ix n → ((i : ℕ) → i < n → ix i < length l) → shows ix val (writes ix val l n) n ≡ true
+shows-writes ix val l n d inside =
+    all-true _ n (λ i b. eq-eqb _ _ (getD-writes ix val l n i d b (inside i b)))
+
+-- a store elsewhere may go first or last
+pub writes-set : (ix val : ℕ → ℕ) (l : List ℕ) (n k v : ℕ) → Apart ix n k → writes ix val (set l k v) n ≡ set (writes ix val l n) k v
+writes-set ix val l zero k v h = refl
+writes-set ix val l (suc n) k v h =
+    ap (λ (r : List ℕ). set r (ix n) (val n)) (writes-set ix val l n k v (λ i b. h i (omega arith)))
+    ∙ set-comm (writes ix val l n) k (ix n) v (val n) (h n (omega arith))
+
+-- storing what stood there undoes the stores
+pub writes-back : (ix old new : ℕ → ℕ) (l : List ℕ) (n : ℕ) → Distinct ix n → shows ix old l n ≡ true → writes ix old (writes ix new l n) n ≡ l
+writes-back ix old new l zero d e = refl
+writes-back ix old new l (suc n) d e =
+    let shown : getD l (ix n) 0 ≡ old n = eqb-true _ _ (and-right (shows ix old l n) (eqb (getD l (ix n) 0) (old n)) e) in
+    let earlier : writes ix old (writes ix new l n) n ≡ l = writes-back ix old new l n (λ a b x y. d a b x (omega arith)) (and-left (shows ix old l n) (eqb (getD l (ix n) 0) (old n)) e) in
+    rw (writes-set ix old (writes ix new l n) n (ix n) (new n) (λ i b. d i n b (omega arith)), earlier, set-set, ← shown) (set-getD l (ix n) 0)
+
+-- ---- a loop that tests, and a loop that writes: one more turn, at the code's i + 1; a failed test; the end
+
+pub all-more : (p : ℕ → Bool) (i : ℕ) → all p i ≡ true → p i ≡ true → all p (i + 1) ≡ true
+all-more p i e h = rw (add-one i, e, h)
+
+pub all-fails : (p : ℕ → Bool) (n i : ℕ) → i < n → p i ≡ false → all p n ≡ false
+all-fails p zero i b h = absurd (not-suc-le-zero b)
+all-fails p (suc n) i b h =
+    ⊎-elim (λ c. rw (all-fails p n i c h)) (λ q. rw (← q, h) (both-false (all p i))) (below-or-last i n b)
+  where
+    both-false : (a : Bool) → a && false ≡ false
+    both-false true = refl
+    both-false false = refl
+
+-- the loop's counter at its end
+pub all-done : (p : ℕ → Bool) (n i : ℕ) → i ≤ n → n ≤ i → all p i ≡ true → all p n ≡ true
+all-done p n i a b e = let q : i ≡ n = omega arith in rw q at e
+
+-- a loop that writes keeps this of the table, where l is the table it began with and i the turns done
+pub record Written (ix val : ℕ → ℕ) (l cur : List ℕ) (i : ℕ) : Type 0 where
+  pub is : cur ≡ writes ix val l i
+  pub long : length cur ≡ length l
+
+pub written-none : {ix val : ℕ → ℕ} {l : List ℕ} → Written ix val l l 0
+written-none = record { is = refl; long = refl }
+
+module _ {ix val : ℕ → ℕ} {l cur : List ℕ} {i : ℕ} (w : Written ix val l cur i) where
+  pub written-more : {k v : ℕ} → k ≡ ix i → v ≡ val i → Written ix val l (set cur k v) (i + 1)
+  written-more {k} {v} at is-val = record {
+    is = rw (at, is-val, add-one) (ap (λ (x : List ℕ). set x (ix i) (val i)) (w .is));
+    long = length-set cur k v ∙ w .long;
+  }
+
+  pub written-done : {n : ℕ} → i ≤ n → n ≤ i → cur ≡ writes ix val l n
+  written-done {n} a b = let q : i ≡ n = omega arith in rw q at (w .is)
+
+-- ---- a loop that compares: x is what stands at the index k of turn i, v what should
+module _ (ix val : ℕ → ℕ) (l : List ℕ) (i : ℕ) {k x v : ℕ} (at : k ≡ ix i) (read : x ≡ getD l k 0) (want : v ≡ val i) where
+  pub show-more : shows ix val l i ≡ true → x ≡ v → shows ix val l (i + 1) ≡ true
+  show-more e same = all-more (λ j. eqb (getD l (ix j) 0) (val j)) i e (eq-eqb (getD l (ix i) 0) (val i) (rw (← at, ← want, ← read) same))
+
+  pub show-fails : (n : ℕ) → i < n → (x ≡ v → ⊥) → false ≡ shows ix val l n
+  show-fails n b differ = sym (all-fails (λ j. eqb (getD l (ix j) 0) (val j)) n i b (ne-eqb (getD l (ix i) 0) (val i) (rw (← at, ← want, ← read) differ)))
+
+pub show-done : (ix val : ℕ → ℕ) (l : List ℕ) (n i : ℕ) → i ≤ n → n ≤ i → shows ix val l i ≡ true → true ≡ shows ix val l n
+show-done ix val l n i a b e = let q : i ≡ n = omega arith in sym (rw q at e)
+
+-- ---- code that stops at the first test that fails: b is what the code's test answered, x the test's definition
+pub first-failed : {b x : Bool} (y : Bool) → b ≡ x → b ≡ false → false ≡ x && y
+first-failed y e f = rw (← e, f)
+
+pub first-passed : {b x v y : Bool} → b ≡ x → b ≡ true → v ≡ y → v ≡ x && y
+first-passed e f g = rw (← e, f) g
+
+-- the same for an answer's number n: b is what the code's test answered, x the test's definition
+pub answer-refused : {b x : Bool} {n : ℕ} (rest : ℕ) → b ≡ x → b ≡ false → n ≡ pick (not x) n rest
+answer-refused rest e f = rw (← e, f)
+
+pub answer-passed : {b x : Bool} {v rest : ℕ} (n : ℕ) → b ≡ x → b ≡ true → v ≡ rest → v ≡ pick (not x) n rest
+answer-passed n e f g = rw (← e, f) g
+
+-- an answer of 0: the test was passed, and the rest answers 0
+pub answer-zero : (b : Bool) (n rest : ℕ) → pick (not b) (suc n) rest ≡ 0 → (b ≡ true) × (rest ≡ 0)
+answer-zero true n rest e = (refl, e)
+answer-zero false n rest e = absurd (omega arith)

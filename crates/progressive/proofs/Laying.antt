@@ -1,0 +1,67 @@
+-- Laws of what a step shows and writes, over plain values: what the functions that compare and store cite. Each unfolds one definition.
+use mathlib.Core.Path.{_≡_}
+use mathlib.Core.Bool.{Bool, true, false, not, _&&_}
+use mathlib.Core.List.{List}
+use Prim.Native.Nat.{ℕ, _+_, _*_, _/_, _%_, _<_, _≤_}
+use borrow.Author.Tests.{lt-ltb, le-ltb, eq-eqb, ne-eqb}
+use native.Mathlib.Omega.{arith}
+use lib.Dec.{eqb}
+use lib.ListN.{getD}
+use Rattle.mesh.specs.Corners.{absent, cornerFields, faceWords}
+use Rattle.mesh.specs.Base.{positionWords}
+use Rattle.progressive.specs.Indexed.{always, from, shows, writes}
+use Rattle.progressive.specs.StepTable.{coordinate, moveCorner, moveCount, moveFace, moveWords, newFaceCount, newFaceWords, splitOf, stepWords}
+use Rattle.progressive.specs.Rules.{cornerIndex}
+use Rattle.progressive.specs.Laying.{clearAfter, laidFaces, newFaceField, newFaceNumber, showsStep, undoneFaces}
+use Rattle.progressive.specs.Inside.{FacesStep}
+use Rattle.progressive.proofs.Corners.{corner-below}
+
+pub corner-index : (t : List ℕ) (o i : ℕ) {face corner : ℕ} → face ≡ moveFace t o i → corner ≡ moveCorner t o i → faceWords * face + 1 + cornerFields * corner ≡ cornerIndex t o i
+unfolding cornerIndex
+corner-index t o i f c = rw (f, c)
+
+-- number i of the new records, as the code has its place
+pub new-face-field : (t : List ℕ) (o i : ℕ) {m v : ℕ} → m ≡ moveCount t o → v ≡ newFaceField t (o + stepWords + moveWords * m + newFaceWords * (i / faceWords)) (i % faceWords) → v ≡ newFaceNumber t o i
+unfolding newFaceNumber
+new-face-field t o i em e = rw (← em) e
+
+-- a field of a new record that is none of the four given ones
+pub field-absent : (t : List ℕ) (at q : ℕ) → (q ≡ 0 → ⊥) → (q ≡ 1 → ⊥) → (q ≡ 1 + cornerFields → ⊥) → (q ≡ 1 + 2 * cornerFields → ⊥) → absent ≡ newFaceField t at q
+unfolding newFaceField
+field-absent t at q a b c d = rw (ne-eqb q 0 a, ne-eqb q 1 b, ne-eqb q (1 + cornerFields) c, ne-eqb q (1 + 2 * cornerFields) d)
+
+pub field-given : (t : List ℕ) (at : ℕ) {q k v : ℕ} → q ≡ k → v ≡ newFaceField t at k → v ≡ newFaceField t at q
+field-given t at e h = rw e h
+
+module _ (t : List ℕ) (o : ℕ) (faces positions : List ℕ) (f r : ℕ) {a : Bool} {m : ℕ} (em : m ≡ moveCount t o) (corners : a ≡ shows (cornerIndex t o) (always r) faces m) where
+  pub corners-not-shown : a ≡ false → false ≡ showsStep t o faces positions f r
+  unfolding showsStep
+  corners-not-shown h = rw (← em, ← corners, h)
+
+  module _ (ha : a ≡ true) {b : Bool} {n : ℕ} (en : n ≡ newFaceCount t o) (records : b ≡ shows (from (faceWords * f)) (newFaceNumber t o) faces (faceWords * n)) where
+    pub records-not-shown : b ≡ false → false ≡ showsStep t o faces positions f r
+    unfolding showsStep
+    records-not-shown h = rw (← em, ← corners, ha, ← en, ← records, h)
+
+    pub shown-by-coordinates : b ≡ true → {v : Bool} → v ≡ shows (from (positionWords * r)) (coordinate t o) positions positionWords → v ≡ showsStep t o faces positions f r
+    unfolding showsStep
+    shown-by-coordinates h e = rw (← em, ← corners, ha, ← en, ← records, h) e
+
+-- ---- the writes to the faces table, as the code makes them
+
+pub laid-faces : (t : List ℕ) (o : ℕ) (faces : List ℕ) (f r : ℕ) {moved after : List ℕ} {m n : ℕ} → m ≡ moveCount t o → n ≡ newFaceCount t o
+    → moved ≡ writes (cornerIndex t o) (always r) faces m → after ≡ writes (from (faceWords * f)) (newFaceNumber t o) moved (faceWords * n) → after ≡ laidFaces t o faces f r
+unfolding laidFaces
+laid-faces t o faces f r em en a b = rw (← em, ← en, ← a) b
+
+pub undone-faces : (t : List ℕ) (o : ℕ) (faces : List ℕ) (f : ℕ) {cleared after : List ℕ} {s m n : ℕ} → s ≡ splitOf t o → m ≡ moveCount t o → n ≡ newFaceCount t o
+    → cleared ≡ writes (from (faceWords * f)) (always 0) faces (faceWords * n) → after ≡ writes (cornerIndex t o) (always s) cleared m → after ≡ undoneFaces t o faces f
+unfolding undoneFaces
+undone-faces t o faces f es em en a b = rw (← es, ← em, ← en, ← a) b
+
+pub corners-inside : {t : List ℕ} {o room f r m : ℕ} → FacesStep t o room f r → m ≡ moveCount t o → (i : ℕ) → i < m → cornerIndex t o i < room
+corners-inside {t} {o} {room} {f} s em i h = omega (arith, s .room, corner-below t o f (s .formed) (s .moves) i (rw em at h))
+
+pub clear-count : (t : List ℕ) (o : ℕ) (faces positions : List ℕ) (f r : ℕ) {n : ℕ} {v : Bool} → n ≡ newFaceCount t o → v ≡ clearAfter faces positions n f r
+    → v ≡ clearAfter faces positions (newFaceCount t o) f r
+clear-count t o faces positions f r en e = rw (← en) e

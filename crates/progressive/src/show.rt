@@ -1,0 +1,175 @@
+// What the mesh tables show of a step (14 for its corners, 18 for its records).
+use crate::form::COORDINATES;
+use crate::form::MOVE_COUNT;
+use crate::form::MOVE_WORDS;
+use crate::form::NEW_FACE_COUNT;
+use crate::form::NEW_FACE_WORDS;
+use crate::form::STEP_WORDS;
+use crate::form::move_corner;
+use crate::form::move_face;
+use crate::words::number;
+use crate::words::word;
+use mesh::faces::ABSENT;
+use mesh::faces::CORNER_FIELDS;
+use mesh::faces::FACE_WORDS;
+use mesh::tables::POSITION_WORDS;
+ghost use mathlib.Core.Path.{_≡_};
+ghost use mathlib.Core.Bool.{true};
+ghost use Prim.Native.Nat.{_+_, _*_, _^_, _≤_, _<_};
+ghost use lib.ListN.{length};
+ghost use Rattle.fields.specs.Limits.{mostMoves};
+ghost use Rattle.mesh.specs.Corners.{faceWords};
+ghost use Rattle.mesh.specs.Base.{positionWords};
+ghost use Rattle.progressive.specs.Indexed.{always, from, shows};
+ghost use Rattle.progressive.specs.StepTable.{coordinate, newFaceCount, stepFormed};
+ghost use Rattle.progressive.specs.Rules.{cornerIndex};
+ghost use Rattle.progressive.specs.Laying.{clearAfter, newFaceField, newFaceNumber, showsStep};
+
+// In a face's record, where the positions of its three corners stand.
+const FIRST_CORNER: usize = 1;
+
+const SECOND_CORNER: usize = 1 + CORNER_FIELDS;
+
+const THIRD_CORNER: usize = 1 + 2 * CORNER_FIELDS;
+
+// Each moved corner holds the value.
+pub(crate) fn corners_show(
+    steps: &[u32],
+    step: usize,
+    value: usize,
+    faces: &[u32],
+    count: usize,
+) -> bool
+    requires { ⌜ (step ≤ length (now steps)) × (count ≤ mostMoves) ⌝ }
+    ensures { λ r. ⌜ r ≡ shows (cornerIndex (now (steps .entry)) step) (always value) (now (faces .entry)) count ⌝ }
+{
+    let mut i: usize = 0;
+    while i < count {
+        let at = FACE_WORDS * move_face(steps, step, i)
+            + 1
+            + CORNER_FIELDS * move_corner(steps, step, i);
+        if number(faces, at) != value {
+            return false;
+        }
+        i += 1;
+    }
+    true
+}
+
+// Zeros from an index on.
+fn zeros(table: &[u32], at: usize, count: usize) -> bool
+    requires { ⌜ at + count ≤ length (now table) ⌝ }
+    ensures { λ r. ⌜ r ≡ shows (from at) (always 0) (now (table .entry)) count ⌝ }
+{
+    let mut i: usize = 0;
+    while i < count {
+        if number(table, at + i) != 0 {
+            return false;
+        }
+        i += 1;
+    }
+    true
+}
+
+// Number q of the record of the new face that is described at an index of the table.
+fn new_face_field(steps: &[u32], at: usize, q: usize) -> u32
+    requires { ⌜ at < 2 ^ 63 ⌝ }
+    ensures { λ r. ⌜ r ≡ newFaceField (now (steps .entry)) at q ⌝ }
+{
+    if q == 0 {
+        return word(steps, at);
+    }
+    if q == FIRST_CORNER {
+        return word(steps, at + 1);
+    }
+    if q == SECOND_CORNER {
+        return word(steps, at + 2);
+    }
+    if q == THIRD_CORNER {
+        return word(steps, at + 3);
+    }
+    ABSENT
+}
+
+// Number i of the new faces' records.
+pub(crate) fn new_face_number(steps: &[u32], step: usize, i: usize) -> u32
+    requires { ⌜ (step ≤ length (now steps)) × (i < 2 ^ 32) ⌝ }
+    ensures { λ r. ⌜ r ≡ newFaceNumber (now (steps .entry)) step i ⌝ }
+{
+    new_face_field(
+        steps,
+        step
+            + STEP_WORDS
+            + MOVE_WORDS * number(steps, step + MOVE_COUNT)
+            + NEW_FACE_WORDS * (i / FACE_WORDS),
+        i % FACE_WORDS,
+    )
+}
+
+// The new faces' records from an index on.
+fn records_show(steps: &[u32], step: usize, faces: &[u32], at: usize, count: usize) -> bool
+    requires { ⌜ (step ≤ length (now steps)) × ((at + count ≤ length (now faces)) × (count < 2 ^ 32)) ⌝ }
+    ensures { λ r. ⌜ r ≡ shows (from at) (newFaceNumber (now (steps .entry)) step) (now (faces .entry)) count ⌝ }
+{
+    let mut i: usize = 0;
+    while i < count {
+        if word(faces, at + i) != new_face_number(steps, step, i) {
+            return false;
+        }
+        i += 1;
+    }
+    true
+}
+
+// The new position's coordinates from an index on.
+fn coordinates_show(steps: &[u32], step: usize, positions: &[u32], at: usize, count: usize) -> bool
+    requires { ⌜ (step ≤ length (now steps)) × ((at + count ≤ length (now positions)) × (count ≤ positionWords)) ⌝ }
+    ensures { λ r. ⌜ r ≡ shows (from at) (coordinate (now (steps .entry)) step) (now (positions .entry)) count ⌝ }
+{
+    let mut i: usize = 0;
+    while i < count {
+        if word(positions, at + i) != word(steps, step + COORDINATES + i) {
+            return false;
+        }
+        i += 1;
+    }
+    true
+}
+
+// Zeros after f faces and r positions, where a step's records go.
+pub(crate) fn room_clear(faces: &[u32], positions: &[u32], added: usize, f: usize, r: usize) -> bool
+    requires { ⌜ (faceWords * (f + added) ≤ length (now faces)) × (positionWords * (r + 1) ≤ length (now positions)) ⌝ }
+    ensures { λ v. ⌜ v ≡ clearAfter (now (faces .entry)) (now (positions .entry)) added f r ⌝ }
+{
+    if !zeros(faces, FACE_WORDS * f, FACE_WORDS * added) {
+        return false;
+    }
+    zeros(positions, POSITION_WORDS * r, POSITION_WORDS)
+}
+
+// The tables show all that the step wrote, at f faces and r positions.
+pub(crate) fn shows_laid(
+    steps: &[u32],
+    step: usize,
+    faces: &[u32],
+    positions: &[u32],
+    f: usize,
+    r: usize,
+) -> bool
+    requires { ⌜ (stepFormed (now steps) step ≡ true) × ((faceWords * (f + newFaceCount (now steps) step) ≤ length (now faces)) × (positionWords * (r + 1) ≤ length (now positions))) ⌝ }
+    ensures { λ v. ⌜ v ≡ showsStep (now (steps .entry)) step (now (faces .entry)) (now (positions .entry)) f r ⌝ }
+{
+    if !corners_show(steps, step, r, faces, number(steps, step + MOVE_COUNT)) {
+        return false;
+    }
+    if !records_show(
+        steps,
+        step,
+        faces,
+        FACE_WORDS * f,
+        FACE_WORDS * number(steps, step + NEW_FACE_COUNT),
+    ) {
+        return false;
+    }
+    coordinates_show(steps, step, positions, POSITION_WORDS * r, POSITION_WORDS)
+}
