@@ -127,17 +127,17 @@ below-length declaration counts (suc left) words b =
 
 -- ---- a mesh
 
-placed-done : (place : ℕ) (j : Judged (List ℕ)) (words : List ℕ) → placedAt place j ≡ done words → j ≡ done words
+pub placed-done : (place : ℕ) (j : Judged (List ℕ)) (words : List ℕ) → placedAt place j ≡ done words → j ≡ done words
 placed-done place (done a) words e = e
 placed-done place (refused n p) words e = not-done e
 
 -- a part that was judged
-part-before : {A B : Type 0} (p : Part) (j : Judged A) (next : A → InPart B) (b : B) → inPart p j next ≡ read b
+pub part-before : {A B : Type 0} (p : Part) (j : Judged A) (next : A → InPart B) (b : B) → inPart p j next ≡ read b
     → (a : A) × (j ≡ done a) × (next a ≡ read b)
 part-before p (done a) next b e = (a, refl, e)
 part-before p (refused n k) next b e = let z : _≡_ {A = ℕ} 0 1 = cc in absurd (omega arith)
 
-base-faces : (s name : List ℕ) (declaration : Declaration) (lengths : List ℕ) (m : Mesh) → baseOf s name declaration lengths ≡ done m
+pub base-faces : (s name : List ℕ) (declaration : Declaration) (lengths : List ℕ) (m : Mesh) → baseOf s name declaration lengths ≡ done m
     → FacesBelow (m .declaration) (m .counts) (getD (m .counts) 0 0) (m .faces)
 unfolding baseOf facesOf
 base-faces s name declaration lengths m e =

@@ -12,3 +12,4 @@ pub mod DeclarationBack
 pub mod BaseBack
 pub mod FacesBack
 pub mod ReadBack
+pub mod Housed
