@@ -2,3 +2,4 @@
 pub mod Judging
 pub mod Bytes
 pub mod Values
+pub mod Names

@@ -1,7 +1,8 @@
 -- Strings and names (01, "Blocks": "name (U16 length, bytes)"). A name is one field: it is judged whole, and then its length (8).
 use Prim.Native.Nat.{ℕ, _+_}
-use mathlib.Core.List.{List, []}
-use lib.Dec.{ltb}
+use mathlib.Core.Bool.{Bool, true, false, _&&_}
+use mathlib.Core.List.{List, [], _∷_}
+use lib.Dec.{eqb, ltb}
 use lib.ListN.{length}
 use Rattle.fields.specs.Numbers.{truncated, badName}
 use Rattle.fields.specs.Limits.{longestName}
@@ -25,6 +26,13 @@ nameBytes s at (refused n p) = []
 
 unfoldable pub namePart : List ℕ → ℕ → List ℕ
 namePart s at = nameBytes s at (nameAt s at)
+
+-- two names are the same
+unfoldable pub same : List ℕ → List ℕ → Bool
+same [] [] = true
+same [] (b ∷ others) = false
+same (a ∷ more) [] = false
+same (a ∷ more) (b ∷ others) = eqb a b && same more others
 
 -- 01's number, place and value of each answer at `at`
 unfoldable pub stringGiven : ℕ → string.StringField → Judged ℕ

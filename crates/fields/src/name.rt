@@ -5,7 +5,7 @@ use crate::field::passes;
 use crate::field::u16_at;
 use crate::limits::LONGEST_NAME;
 ghost use mathlib.Core.Path.{_≡_};
-ghost use Rattle.fields.specs.Name.{stringAt, stringGiven, nameAt, nameGiven, namePart};
+ghost use Rattle.fields.specs.Name.{stringAt, stringGiven, nameAt, nameGiven, namePart, same};
 
 pub enum StringField {
     Size(usize),
@@ -58,4 +58,21 @@ pub fn name_part(s: &[u8], at: usize) -> &[u8]
         NameField::Long => &s[..0],
         NameField::Size(size) => bytes_at(s, at + 2, size),
     }
+}
+
+// Whether two names are the same, byte by byte.
+pub fn is_same(a: &[u8], b: &[u8]) -> bool
+    ensures { λ r. ⌜ r ≡ same (now (a .entry)) (now (b .entry)) ⌝ }
+{
+    if a.len() != b.len() {
+        return false;
+    }
+    let mut i = 0;
+    while i < a.len() {
+        if a[i] != b[i] {
+            return false;
+        }
+        i = i + 1;
+    }
+    true
 }

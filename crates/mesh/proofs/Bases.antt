@@ -16,13 +16,13 @@ use lib.Seq.{sets}
 use Rattle.fields.specs.Field.{fieldAt, littleEndian}
 use Rattle.fields.specs.Judged.{Judged, done, refused, onDone}
 use Rattle.fields.specs.Limits.{largestFile}
-use Rattle.fields.specs.Name.{nameAt, namePart}
+use Rattle.fields.specs.Name.{nameAt, namePart, same}
 use Rattle.fields.specs.Numbers.{badName, noRoom, overLimit, truncated}
 use Rattle.fields.specs.declared.numbers.Refusal.{Refusal}
 use Rattle.fields.proofs.Judging.{name-within, not-done, passed, value-before}
 use Rattle.mesh.specs.Run.{Ended, anyNumber, ruledAt, runAt, unjudged, valuesOf}
 use Rattle.mesh.specs.Corners.{faceWords}
-use Rattle.mesh.specs.Base.{InPart, Mesh, Tables, answered, baseOf, baseRules, hasRoom, headOf, lengthsOf, meshOf, poolWords, poolsAt, read, refusedIn, same, tableCount, tableOf, tablesAfter, wordsIn}
+use Rattle.mesh.specs.Base.{InPart, Mesh, Tables, answered, baseOf, baseRules, hasRoom, headOf, lengthsOf, meshOf, poolWords, poolsAt, read, refusedIn, tableCount, tableOf, tablesAfter, wordsIn}
 use Rattle.mesh.specs.Declaration.{declarationOf, meshName}
 use Rattle.mesh.specs.Faces.{facesOf}
 use Rattle.mesh.specs.Inside.{ContentsFit, FacesFit, JudgedFits, baseFaces, contentsAt, countsFrom, endedGiven, facesGiven, facesIn, facesStart, headGiven, inContinuation, judgedGiven, meshFrom, nextGiven, poolAt, poolNumbers, rulesFrom, storedFaces, storedRun, wordsBefore, wordsOr}

@@ -2,12 +2,12 @@
 use Prim.Native.Nat.{ℕ, zero, suc, _+_, _*_}
 use mathlib.Core.Bool.{Bool, true, false, _&&_, not}
 use mathlib.Core.List.{List, [], _∷_}
-use lib.Dec.{eqb, leb, ltb}
+use lib.Dec.{leb, ltb}
 use lib.ListN.{drop, getD, length, replicate}
 use Rattle.fields.specs.Limits.{largestCount, largestFile}
 use Rattle.fields.specs.Numbers.{badName, noRoom, overLimit}
 use Rattle.fields.specs.Judged.{Judged, done, refused, onDone, pick, refusedIf}
-use Rattle.fields.specs.Name.{nameAt, namePart}
+use Rattle.fields.specs.Name.{nameAt, namePart, same}
 use Rattle.mesh.specs.Run.{Ended, filled, runAt, unjudged, upTo, valuesOf}
 use Rattle.mesh.specs.Declaration.{declarationOf, meshName}
 use Rattle.mesh.specs.Corners.{faceWords}
@@ -20,13 +20,6 @@ use Rattle.mesh.specs.declared.base.Part as part
 use Rattle.mesh.specs.declared.base.MeshRead as mesh
 
 -- ---- the head
-
--- two names are the same
-unfoldable pub same : List ℕ → List ℕ → Bool
-same [] [] = true
-same [] (b ∷ others) = false
-same (a ∷ more) [] = false
-same (a ∷ more) (b ∷ others) = eqb a b && same more others
 
 abbrev pub smaller : ℕ → ℕ → ℕ
 smaller a b = pick (ltb a b) a b

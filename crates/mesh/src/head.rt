@@ -6,6 +6,7 @@ use crate::run::Next;
 use crate::run::name_end;
 use crate::run::read_run;
 use fields::limits::LARGEST_COUNT;
+use fields::name::is_same;
 use fields::numbers::BAD_NAME;
 use fields::numbers::Refusal;
 ghost use mathlib.Core.Path.{_≡_};
@@ -13,7 +14,7 @@ ghost use Prim.Native.Nat.{_≤_};
 ghost use lib.ListN.{length};
 ghost use Rattle.fields.specs.Judged.{refusedBy};
 ghost use Rattle.fields.specs.Limits.{largestFile};
-ghost use Rattle.mesh.specs.Base.{baseRules, headOf, same, smaller};
+ghost use Rattle.mesh.specs.Base.{baseRules, headOf, smaller};
 ghost use Rattle.mesh.specs.Inside.{headGiven, rulesFrom};
 
 // The base counts, and where the pools start.
@@ -21,22 +22,6 @@ pub struct Head {
     pub next: Next,
     // Faces, positions, normals, diffuse colors, specular colors, texture coordinates.
     pub counts: [u32; 6],
-}
-
-fn is_same(a: &[u8], b: &[u8]) -> bool
-    ensures { λ r. ⌜ r ≡ same (now (a .entry)) (now (b .entry)) ⌝ }
-{
-    if a.len() != b.len() {
-        return false;
-    }
-    let mut i = 0;
-    while i < a.len() {
-        if a[i] != b[i] {
-            return false;
-        }
-        i = i + 1;
-    }
-    true
 }
 
 fn smaller_of(a: u32, b: u32) -> u32

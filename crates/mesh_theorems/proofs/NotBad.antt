@@ -10,11 +10,11 @@ use Rattle.fields.specs.Limits.{largestFile, longestName}
 use Rattle.fields.specs.Numbers.{badName, badState, bytesLeft, outOfOrder, overLimit, truncated}
 use Rattle.fields.specs.Judged.{Judged, done, refused, onDone, refusedIf}
 use Rattle.fields.specs.Field.{fieldAt}
-use Rattle.fields.specs.Name.{nameAt, namePart, stringAt}
+use Rattle.fields.specs.Name.{nameAt, namePart, same, stringAt}
 use Rattle.mesh.specs.Run.{ruledAt, runAt, unjudged}
 use Rattle.mesh.specs.Shading.{shadingAt, shadingRules, shadingsAt}
 use Rattle.mesh.specs.Declaration.{closingRules, declarationOf, openingRules}
-use Rattle.mesh.specs.Base.{baseRules, headOf, poolsAt, same, sized}
+use Rattle.mesh.specs.Base.{baseRules, headOf, poolsAt, sized}
 use Rattle.mesh.specs.declared.run.Rule.{Rule}
 use Rattle.mesh.specs.declared.declaration.Declaration.{Declaration}
 

@@ -8,10 +8,10 @@ use lib.ListN.{getD}
 use Rattle.fields.specs.Limits.{largestCount}
 use Rattle.fields.specs.Numbers.{badName}
 use Rattle.fields.specs.Judged.{done}
-use Rattle.fields.specs.Name.{nameAt, namePart}
+use Rattle.fields.specs.Name.{nameAt, namePart, same}
 use Rattle.fields.proofs.Judging.{passed, same-done, value-before}
 use Rattle.mesh.specs.Run.{Ended, runAt, unjudged, valuesOf}
-use Rattle.mesh.specs.Base.{baseRules, headOf, same}
+use Rattle.mesh.specs.Base.{baseRules, headOf}
 use Rattle.mesh.specs.declared.declaration.Declaration.{Declaration}
 use Rattle.mesh.proofs.Runs.{run-limited}
 

@@ -21,7 +21,7 @@ use Rattle.coder_theorems.proofs.Steady.{Sound, Steady, fresh-steady, went}
 use Rattle.mesh.specs.Declaration.{declarationOf, meshName}
 use Rattle.mesh.specs.Corners.{absent, cornerFields, fieldContext, formOf, present, shadingContext}
 use Rattle.mesh.specs.Faces.{Coded, codedNumber, cornersFrom, faceFrom, facesFrom, facesOf, fieldFrom, placedAt, shadingFrom}
-use Rattle.mesh.specs.Base.{InPart, baseOf, hasRoom, headOf, inPart, meshOf, poolWords, poolsAt, read, refusedIn, same, sized}
+use Rattle.mesh.specs.Base.{InPart, baseOf, hasRoom, headOf, inPart, meshOf, poolWords, poolsAt, read, refusedIn, sized}
 use Rattle.mesh.specs.declared.declaration.Declaration.{Declaration}
 use Rattle.mesh.specs.declared.faces.CornerForm.{CornerForm}
 use Rattle.mesh.specs.declared.base.Part.{Part}

@@ -1,6 +1,7 @@
 // Rows of the walk's table, and the declaration that a base mesh goes with.
 use blocks::parts::data_part;
 use fields::name::NameField;
+use fields::name::is_same;
 use fields::name::name_at;
 use mesh::declaration::mesh_name;
 
@@ -40,20 +41,6 @@ fn type_in(table: &[u32], row: usize) -> u32 {
 
 pub(crate) fn is_base_mesh(table: &[u32], row: usize) -> bool {
     type_in(table, row) == BASE_MESH
-}
-
-fn is_same(a: &[u8], b: &[u8]) -> bool {
-    if a.len() != b.len() {
-        return false;
-    }
-    let mut i: usize = 0;
-    while i < a.len() {
-        if a[i] != b[i] {
-            return false;
-        }
-        i += 1;
-    }
-    true
 }
 
 // Whether the data begins with this name.

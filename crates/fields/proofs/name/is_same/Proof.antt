@@ -4,10 +4,10 @@ use mathlib.Core.Path.{_∙_, _≡_, refl, sym}
 use native.Mathlib.Omega.{arith}
 use denote.Ref.{now}
 use lib.ListN.{drop, length}
-use Rattle.mesh.specs.Base.{same}
-use Rattle.mesh.proofs.Heads.{same-lengths, same-more, same-none, same-stopped}
-use Rattle.mesh.proofs.head.is_same.Statement.{statement}
-use Rattle.mesh.proofs.head.is_same.Tie as tie
+use Rattle.fields.specs.Name.{same}
+use Rattle.fields.proofs.Names.{same-lengths, same-more, same-none, same-stopped}
+use Rattle.fields.proofs.name.is_same.Statement.{statement}
+use Rattle.fields.proofs.name.is_same.Tie as tie
 
 abbrev Inv-loop : tie.InvT-loop
 Inv-loop a b i₀ i = (i ≤ length a) × (length a ≡ length b) × (same a b ≡ same (drop i a) (drop i b))
