@@ -7,7 +7,7 @@ use native.Mathlib.Nat.{add-zero}
 use native.Mathlib.Omega.{arith}
 use Rattle.fields.specs.Judged.{done}
 use Rattle.mesh.specs.Run.{unjudged}
-use Rattle.mesh.specs.Shading.{shadingAt, shadingRules, shadingsAt}
+use Rattle.mesh.specs.Shading.{layerLimit, shadingAt, shadingRules, shadingsAt}
 use Rattle.mesh.specs.declared.shading.Shading.{Shading}
 use Rattle.mesh_theorems.specs.Encoding.{All, Shadeable, bytesOf, shadingFields, shadingsFields, wordBytes}
 use Rattle.mesh_theorems.proofs.FieldsBack.{Keeps, after-words, field-back, keeps-words, part-back, two-runs}
@@ -18,8 +18,8 @@ unfolding shadingFields
 length-shading sh h =
     omega (arith, h .layers .many, length-append (take (sh .«layer_count») (sh .dimensions)) (sh .«original_id» ∷ []))
 
--- shadings take five numbers each at most
-pub length-shadings : (shs : List Shading) → All Shadeable shs → length (shadingsFields shs) ≤ 5 * length shs
+-- shadings take three numbers and one for each layer that a shading may have
+pub length-shadings : (shs : List Shading) → All Shadeable shs → length (shadingsFields shs) ≤ (layerLimit + 3) * length shs
 unfolding shadingsFields All
 length-shadings [] a = zero-le
 length-shadings (sh ∷ more) a =
