@@ -24,13 +24,13 @@ fn write_corners(steps: &[u32], step: usize, value: u32, faces: &mut [u32], coun
     requires { ⌜ (step ≤ length (now steps)) × ((count ≤ mostMoves) × ((i : ℕ) → i < count → cornerIndex (now steps) step i < length (now faces))) ⌝ }
     ensures { λ _. ⌜ now (faces .exit) ≡ writes (cornerIndex (now (steps .entry)) step) (always value) (now (faces .entry)) count ⌝ }
 {
-    let mut i: usize = 0;
-    while i < count {
-        let at = FACE_WORDS * move_face(steps, step, i)
+    let mut moved: usize = 0;
+    while moved < count {
+        let at = FACE_WORDS * move_face(steps, step, moved)
             + 1
-            + CORNER_FIELDS * move_corner(steps, step, i);
+            + CORNER_FIELDS * move_corner(steps, step, moved);
         faces[at] = value;
-        i += 1;
+        moved += 1;
     }
 }
 
@@ -78,20 +78,10 @@ pub(crate) fn lay_faces(steps: &[u32], step: usize, faces: &mut [u32], f: usize,
     requires { ⌜ FacesStep (now steps) step (length (now faces)) f r ⌝ }
     ensures { λ _. ⌜ now (faces .exit) ≡ laidFaces (now (steps .entry)) step (now (faces .entry)) f r ⌝ }
 {
-    write_corners(
-        steps,
-        step,
-        r as u32,
-        faces,
-        number(steps, step + MOVE_COUNT),
-    );
-    write_records(
-        steps,
-        step,
-        faces,
-        FACE_WORDS * f,
-        FACE_WORDS * number(steps, step + NEW_FACE_COUNT),
-    );
+    let moves = number(steps, step + MOVE_COUNT);
+    write_corners(steps, step, r as u32, faces, moves);
+    let words = FACE_WORDS * number(steps, step + NEW_FACE_COUNT);
+    write_records(steps, step, faces, FACE_WORDS * f, words);
 }
 
 // The step taken off the faces table, at f faces and r positions below it.
@@ -99,16 +89,8 @@ pub(crate) fn undo_faces(steps: &[u32], step: usize, faces: &mut [u32], f: usize
     requires { ⌜ FacesStep (now steps) step (length (now faces)) f r ⌝ }
     ensures { λ _. ⌜ now (faces .exit) ≡ undoneFaces (now (steps .entry)) step (now (faces .entry)) f ⌝ }
 {
-    clear(
-        faces,
-        FACE_WORDS * f,
-        FACE_WORDS * number(steps, step + NEW_FACE_COUNT),
-    );
-    write_corners(
-        steps,
-        step,
-        word(steps, step),
-        faces,
-        number(steps, step + MOVE_COUNT),
-    );
+    let words = FACE_WORDS * number(steps, step + NEW_FACE_COUNT);
+    clear(faces, FACE_WORDS * f, words);
+    let moves = number(steps, step + MOVE_COUNT);
+    write_corners(steps, step, word(steps, step), faces, moves);
 }

@@ -43,17 +43,17 @@ mul-faces c = search needs
 slice-write-faces : tie.Need-slice-write-faces Inv-loop μ-loop
 slice-write-faces c = let at-loop = c .before .before .before in
     let at-start = at-loop .before .before .before in
-    omega (arith, (corner-index (now (c .before .before .before .before .before .before .args .steps)) (c .before .before .before .before .before .before .args .step) (c .before .before .before .loop .i) (c .before .move-face .ensures .0) (c .move-corner .ensures .0)), at-start .pre .1 .1 (at-loop .loop .i) (c .before .before .loop-test .taken))
+    omega (arith, (corner-index (now (c .before .before .before .before .before .before .args .steps)) (c .before .before .before .before .before .before .args .step) (c .before .before .before .loop .moved) (c .before .move-face .ensures .0) (c .move-corner .ensures .0)), at-start .pre .1 .1 (at-loop .loop .moved) (c .before .before .loop-test .taken))
 
-add-i : tie.Need-add-i Inv-loop μ-loop
-add-i c = search needs
+add-moved : tie.Need-add-moved Inv-loop μ-loop
+add-moved c = search needs
 
 loop-less : tie.Need-loop-less Inv-loop μ-loop
 loop-less c = search needs
 
 loop-again : tie.Need-loop-again Inv-loop μ-loop
 loop-again c = let at-loop = c .before .before .before in
-    (search needs, written-more (at-loop .loop .inv .1) (corner-index (now (c .before .before .before .before .before .before .args .steps)) (c .before .before .before .before .before .before .args .step) (c .before .before .before .loop .i) (c .before .move-face .ensures .0) (c .move-corner .ensures .0)) refl)
+    (search needs, written-more (at-loop .loop .inv .1) (corner-index (now (c .before .before .before .before .before .before .args .steps)) (c .before .before .before .before .before .before .args .step) (c .before .before .before .loop .moved) (c .before .move-face .ensures .0) (c .move-corner .ensures .0)) refl)
 
 same-length : tie.Need-same-length Inv-loop μ-loop
 same-length c = search needs
@@ -76,7 +76,7 @@ write-corners-spec =
     add-at-2
     mul-faces
     slice-write-faces
-    add-i
+    add-moved
     loop-less
     loop-again
     same-length
