@@ -1,9 +1,8 @@
 -- Laws of `all`, `writes` and `shows`: what a bounded test tells, and that stores at distinct indices can be read back, leave the rest as it was
 -- and are undone by the stores of what stood there.
--- Assumes nothing.
 use mathlib.Core.Path.{_≡_, refl, sym, ap, _∙_}
 use mathlib.Core.Logic.{_≢_, _⊎_, inl, inr, ⊎-elim}
-use mathlib.Core.Bool.{Bool, true, false, _&&_, not}
+use mathlib.Core.Bool.{Bool, true, false, _&&_}
 use mathlib.Core.List.{List}
 use Prim.Native.Nat.{ℕ, zero, suc, _+_, _<_, _≤_}
 use native.Mathlib.Numerals.{add-one}
@@ -14,7 +13,6 @@ use borrow.Author.Tests.{eqb-true, eq-eqb, ne-eqb}
 use lib.Dec.{eqb}
 use lib.ListN.{length, getD, set, length-set}
 use lib.Seq.{getD-set-same, getD-set-other, set-getD, set-set, set-comm}
-use Rattle.fields.specs.Judged.{pick}
 use Rattle.progressive.specs.Indexed.{all, shows, writes}
 
 pub and-left : (a b : Bool) → a && b ≡ true → a ≡ true
@@ -147,15 +145,3 @@ first-failed y e f = rw (← e, f)
 
 pub first-passed : {b x v y : Bool} → b ≡ x → b ≡ true → v ≡ y → v ≡ x && y
 first-passed e f g = rw (← e, f) g
-
--- the same for an answer's number n: b is what the code's test answered, x the test's definition
-pub answer-refused : {b x : Bool} {n : ℕ} (rest : ℕ) → b ≡ x → b ≡ false → n ≡ pick (not x) n rest
-answer-refused rest e f = rw (← e, f)
-
-pub answer-passed : {b x : Bool} {v rest : ℕ} (n : ℕ) → b ≡ x → b ≡ true → v ≡ rest → v ≡ pick (not x) n rest
-answer-passed n e f g = rw (← e, f) g
-
--- an answer of 0: the test was passed, and the rest answers 0
-pub answer-zero : (b : Bool) (n rest : ℕ) → pick (not b) (suc n) rest ≡ 0 → (b ≡ true) × (rest ≡ 0)
-answer-zero true n rest e = (refl, e)
-answer-zero false n rest e = absurd (omega arith)

@@ -1,12 +1,12 @@
 -- Laws of a whole call, over plain values: the tests in the code's order, what a granted step's writes need, and the mesh that they make.
-use mathlib.Core.Path.{_≡_, ap, sym, _∙_}
+use mathlib.Core.Path.{_≡_, sym, _∙_}
 use mathlib.Core.Bool.{Bool, true, false, not, _&&_}
 use mathlib.Core.List.{List}
 use Prim.Native.Nat.{ℕ, _+_, _-_, _*_}
 use native.Mathlib.Omega.{arith}
 use borrow.Author.Tests.{eq-eqb, ne-eqb, not-false}
 use lib.ListN.{length}
-use Rattle.fields.specs.Numbers.{badState, noRoom, noStep, notAllowed}
+use Rattle.fields.specs.Numbers.{noRoom, noStep, notAllowed}
 use Rattle.fields.specs.Judged.{Judged, done, refused, refusedIf}
 use Rattle.fields.proofs.Judging.{passed, refusal-before, told}
 use Rattle.mesh.specs.Base.{positionWords}
@@ -15,7 +15,7 @@ use Rattle.progressive.specs.declared.counts.Stepped.{Stepped}
 use Rattle.progressive.specs.declared.levels.Place.{Place}
 use Rattle.progressive.specs.declared.refine.Verdict as verdict
 use Rattle.progressive.specs.Indexed.{all, always, from, writes}
-use Rattle.progressive.specs.StepTable.{coordinate, moveCount, newFaceCount, stepCount, stepOffset}
+use Rattle.progressive.specs.StepTable.{coordinate, moveCount, newFaceCount, stepCount}
 use Rattle.progressive.specs.Mesh.{Mesh, fits, meshOf}
 use Rattle.progressive.specs.Rules.{allowedOn, moveNumbers, numbersAllowed}
 use Rattle.progressive.specs.Laying.{laid, laidFaces, laidPositions, undone, undoneFaces, undonePositions}

@@ -1,12 +1,10 @@
 -- Laws of what a step shows and writes, over plain values: what the functions that compare and store cite. Each unfolds one definition.
 use mathlib.Core.Path.{_≡_}
-use mathlib.Core.Bool.{Bool, true, false, not, _&&_}
+use mathlib.Core.Bool.{Bool, true, false}
 use mathlib.Core.List.{List}
-use Prim.Native.Nat.{ℕ, _+_, _*_, _/_, _%_, _<_, _≤_}
-use borrow.Author.Tests.{lt-ltb, le-ltb, eq-eqb, ne-eqb}
+use Prim.Native.Nat.{ℕ, _+_, _*_, _/_, _%_, _<_}
+use borrow.Author.Tests.{ne-eqb}
 use native.Mathlib.Omega.{arith}
-use lib.Dec.{eqb}
-use lib.ListN.{getD}
 use Rattle.mesh.specs.Corners.{absent, cornerFields, faceWords}
 use Rattle.mesh.specs.Base.{positionWords}
 use Rattle.progressive.specs.Indexed.{always, from, shows, writes}

@@ -6,11 +6,10 @@ use Prim.Native.Nat.{ℕ, zero, suc, _+_, _-_, _*_, _<_, _≤_}
 use native.Mathlib.Numerals.{add-one}
 use native.Mathlib.Omega.{arith}
 use borrow.Author.Tests.{eq-eqb, eqb-true, le-leb, leb-true, not-false}
-use lib.Dec.{leb, eqb}
 use lib.ListN.{length}
 use Rattle.fields.specs.Limits.{largestCount, mostNewFaces, mostSteps}
 use Rattle.fields.specs.Numbers.{badSteps, countsDisagree}
-use Rattle.fields.specs.Judged.{Judged, done, refused}
+use Rattle.fields.specs.Judged.{done, refused}
 use Rattle.fields.proofs.Judging.{passed, same-done, value-before}
 use Rattle.progressive.specs.declared.levels.Place.{Place}
 use Rattle.progressive.specs.declared.levels.Walked.{Walked}

@@ -6,7 +6,6 @@ use Prim.Native.Nat.{ℕ, _+_, _-_}
 use lib.Dec.{eqb, leb}
 use Rattle.fields.specs.Numbers.{badSteps, countsDisagree, noStep, noRoom, notAllowed, badState}
 use Rattle.fields.specs.Judged.{Judged, done, refused, onDone, refusedIf}
-use Rattle.progressive.specs.declared.counts.Counts.{Counts}
 use Rattle.progressive.specs.declared.counts.Stepped as stepped
 use Rattle.progressive.specs.StepTable.{basePositions, stepCount, newFaceCount, stepOffset, facesBefore, wellFormed}
 use Rattle.progressive.specs.Mesh.{Mesh, meshOf, roomFor}

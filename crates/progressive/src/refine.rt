@@ -25,7 +25,6 @@ use mesh::faces::FACE_WORDS;
 use mesh::tables::POSITION_WORDS;
 ghost use mathlib.Core.Path.{_≡_};
 ghost use mathlib.Core.Bool.{true, _&&_};
-ghost use lib.ListN.{length};
 ghost use Rattle.progressive.specs.StepTable.{stepFormed};
 ghost use Rattle.progressive.specs.Mesh.{fits, meshOf};
 ghost use Rattle.progressive.specs.Rules.{allowedOn};

@@ -1,15 +1,13 @@
 -- What the reader of meshes leaves in the caller's tables is a base mesh with clear room: each table holds its words, and zeros to its end.
-use mathlib.Core.Path.{_≡_, _∙_, ap, refl, sym}
-use mathlib.Core.Bool.{true}
-use mathlib.Core.List.{List, [], _∷_, _++_, map}
-use Prim.Native.Nat.{ℕ, zero, suc, _+_, _-_, _*_, _<_, _≤_}
+use mathlib.Core.Path.{_≡_, _∙_, ap, refl}
+use mathlib.Core.List.{List, [], _∷_, map}
+use Prim.Native.Nat.{ℕ, zero, suc, _+_, _-_, _≤_}
 use native.Mathlib.Omega.{arith}
 use borrow.Author.Tests.{le-leb}
 use lib.ListN.{getD, length, length-append, length-replicate, replicate}
 use lib.Seq.{getD-append-add}
-use Rattle.mesh.specs.Corners.{faceWords}
 use Rattle.mesh.specs.Run.{filled}
-use Rattle.mesh.specs.Base.{InPart, Tables, answered, countsOf, lengthsOf, meshOf, positionWords, read, refusedIn, tablesAfter, wordsIn}
+use Rattle.mesh.specs.Base.{InPart, Tables, answered, countsOf, lengthsOf, meshOf, read, refusedIn, tablesAfter, wordsIn}
 use Rattle.mesh.specs.Base as base
 use Rattle.mesh.specs.declared.base.MeshCounts.{MeshCounts}
 use Rattle.mesh_theorems.proofs.Housed.{Housed, housed}

@@ -3,7 +3,7 @@
 use mathlib.Core.Path.{_≡_, refl, sym, _∙_}
 use mathlib.Core.Bool.{Bool, true, false, not}
 use mathlib.Core.List.{List, [], _∷_}
-use Prim.Native.Nat.{ℕ, zero, suc, _+_, _-_, _<_, _≤_}
+use Prim.Native.Nat.{ℕ, zero, suc, _+_, _-_}
 use native.Mathlib.Numerals.{add-one}
 use native.Mathlib.Omega.{arith}
 use borrow.Author.Tests.{eqb-false, ne-eqb, not-false}
@@ -15,7 +15,7 @@ use Rattle.progressive.specs.StepTable.{newFaceCount, stepCount, stepFormed, st
 use Rattle.progressive.specs.Mesh.{Mesh, roomFor}
 use Rattle.progressive.specs.Rules.{allowed}
 use Rattle.progressive.specs.Laying.{laid, laidFaces, laidPositions, showsLaid, undone}
-use Rattle.progressive.specs.Steps.{coarsened, coarsenedBy, level, levelOf, refined, refinedBy, reply}
+use Rattle.progressive.specs.Steps.{coarsened, coarsenedBy, levelOf, refined, refinedBy, reply}
 use Rattle.progressive.proofs.Formed.{formed-at}
 use Rattle.progressive_theorems.specs.Calls.{Call, down, judgedBy, meshAfter, replies, up}
 use Rattle.progressive_theorems.specs.Tally.{levelAfter, meshAt, stepFits, tally, tallyDown, tallyOf, tallyUp}

@@ -3,7 +3,7 @@
 use mathlib.Core.Path.{_≡_, _∙_, ap, refl, sym}
 use mathlib.Core.Bool.{not, true}
 use mathlib.Core.List.{List, [], _∷_, _++_}
-use Prim.Native.Nat.{ℕ, zero, suc, _+_, _-_, _<_}
+use Prim.Native.Nat.{ℕ, suc, _+_, _-_, _<_}
 use native.Mathlib.Numerals.{add-one}
 use native.Mathlib.Omega.{arith}
 use borrow.Author.Tests.{eqb-false, ne-eqb}
@@ -17,9 +17,8 @@ use Rattle.progressive.specs.StepTable.{stepCount, stepOffset, wellFormed}
 use Rattle.progressive.specs.Mesh.{Mesh}
 use Rattle.progressive.specs.Rules.{allowed}
 use Rattle.progressive.specs.Steps.{Reply, granted, reply}
-use Rattle.progressive_theorems.specs.Calls.{Call, States, baseMesh, down, downsGranted, meshAfter, meshEnd, replies, up, upsGranted}
+use Rattle.progressive_theorems.specs.Calls.{Call, States, baseMesh, down, downsGranted, meshEnd, replies, up, upsGranted}
 use Rattle.progressive_theorems.specs.Tally.{levelAfter, levelEnd, meshAt, stepFits, tally, tallyDown, tallyOf, tallyUp}
-use Rattle.progressive_theorems.proofs.Levels.{Based}
 use Rattle.progressive_theorems.proofs.Following.{after-level, follows-tally}
 use Rattle.progressive_theorems.proofs.BaseRead.{read-based}
 

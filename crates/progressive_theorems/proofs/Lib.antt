@@ -7,3 +7,4 @@ pub mod CallList
 pub mod InWords
 pub mod Triangle
 pub mod Examples
+pub mod TextFormed

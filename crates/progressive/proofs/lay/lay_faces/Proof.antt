@@ -16,7 +16,7 @@ cast-write-corners : tie.Need-cast-write-corners
 cast-write-corners c = omega (arith, c .before .before .before .pre .few)
 
 write-corners-requires : tie.Need-write-corners-requires
-write-corners-requires c κs = 
+write-corners-requires c κs =
     let start = c .before .before .before .before in
     let step = formed (now (start .args .steps)) (start .args .step) (start .pre .formed) in
     (omega (arith, step .head), (omega (arith, step .moves, c .before .number .ensures .0), corners-inside (start .pre) (c .before .number .ensures .0)))
@@ -34,7 +34,7 @@ mul-write-records : tie.Need-mul-write-records
 mul-write-records c = search needs
 
 write-records-requires : tie.Need-write-records-requires
-write-records-requires c κs = 
+write-records-requires c κs =
     let start = c .before .before .before .before .before .before .before .before .before in
     let step = formed (now (start .args .steps)) (start .args .step) (start .pre .formed) in
     omega (arith, step .head, step .faces, c .before .number2 .ensures .0, start .pre .room, c .before .before .before .before .write-corners .kept .1 .1 .1 .0)
@@ -43,7 +43,7 @@ same-length : tie.Need-same-length
 same-length c = omega (arith, c .before .before .write-records .kept .1 .1 .0, c .before .before .before .before .before .before .before .write-corners .kept .1 .1 .1 .0)
 
 returns : tie.Need-returns
-returns c = 
+returns c =
     let a = c .before .before .before .before .before .before .before .before .before .before .before .before .args in
     laid-faces (now (a .steps)) (a .step) (now (a .faces)) (a .f) (a .r) (c .before .before .before .before .before .before .before .before .before .number .ensures .0) (c .before .before .before .before .number2 .ensures .0) (c .before .before .before .before .before .before .before .write-corners .ensures) (c .before .before .write-records .ensures)
 

@@ -31,10 +31,9 @@ word-requires : tie.Need-word-requires
 word-requires c κs = search needs
 
 write-corners-requires : tie.Need-write-corners-requires
-write-corners-requires c κs = 
+write-corners-requires c κs =
     let start = c .before .before .before .before .before .before .before .before .before .before in
-    let step = formed (now (start .args .steps)) (start .args .step) (start .pre .formed) in
-    (
+    let step = formed (now (start .args .steps)) (start .args .step) (start .pre .formed) in (
       omega (arith, step .head),
       (
         omega (arith, step .moves, c .before .before .number2 .ensures .0),
@@ -46,7 +45,7 @@ same-length : tie.Need-same-length
 same-length c = omega (arith, c .before .before .write-corners .kept .1 .1 .1 .0, c .before .before .before .before .before .before .before .before .clear .kept .0)
 
 returns : tie.Need-returns
-returns c = 
+returns c =
     let a = c .before .before .before .before .before .before .before .before .before .before .before .before .before .args in
     undone-faces (now (a .steps)) (a .step) (now (a .faces)) (a .f) (c .before .before .before .before .word .ensures) (c .before .before .before .before .before .number2 .ensures .0) (c .before .before .before .before .before .before .before .before .before .before .number .ensures .0) (c .before .before .before .before .before .before .before .before .clear .ensures) (c .before .before .write-corners .ensures)
 
