@@ -2,4 +2,5 @@
 // number; the place and the other results go to `result`, which it leaves as it was where that is too short (12).
 pub mod meshes;
 mod result;
+pub mod steps;
 pub mod walk;
