@@ -10,7 +10,8 @@ from pathlib import Path
 sys.dont_write_bytecode = True
 
 from u3d import (  # noqa: E402 (after the setting above)
-    block_files, blocks, coder_calls, coder_files, coder_refusals, mesh, mesh_files)
+    block_files, blocks, climb_calls, climb_files, coder_calls, coder_files, coder_refusals, mesh,
+    mesh_files)
 
 CRATES = Path("crates")
 
@@ -167,6 +168,22 @@ def read_mesh():
     return run_files("read_mesh", [("sample.u3d", data)], mesh.listing(data))
 
 
+def progressive_runs():
+    """Climb texts, and calls of up and down on the meshes that are read with them."""
+    cases = climb_files.cases()
+    inputs = [(case.name, climb_calls.stored(case)) for case in cases]
+    stdout = lines("\t".join(map(str, fields)) for case in cases for fields in climb_report(case))
+    return run_files("progressive_runs", inputs, stdout)
+
+
+def climb_report(case):
+    """Up and down must agree with the answers worked out by hand, and with the tally."""
+    try:
+        return list(climb_calls.output(case))
+    except climb_calls.Differs as differs:
+        sys.exit("%s: %s" % (case.name, differs))
+
+
 def write(files):
     for path, data in files.items():
         path.parent.mkdir(parents=True, exist_ok=True)
@@ -189,7 +206,8 @@ def differences(files):
 def main(arguments):
     if arguments not in ([], ["--check"]):
         sys.exit("usage: make_runs.py [--check]")
-    files = {**list_blocks(), **walk_runs(), **cut_runs(), **coder_runs(), **mesh_runs(), **read_mesh()}
+    runs = (list_blocks, walk_runs, cut_runs, coder_runs, mesh_runs, read_mesh, progressive_runs)
+    files = {path: data for run in runs for path, data in run().items()}
     if not arguments:
         write(files)
         return 0
