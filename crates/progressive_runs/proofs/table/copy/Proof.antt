@@ -1,0 +1,56 @@
+-- The copy keeps its length; the measure is what is left of the table.
+use Prim.Native.Nat.{_≤_, _-_}
+use mathlib.Core.Path.{_≡_}
+use lib.ListN.{length}
+use borrow.Author.Needs.{needs}
+use Rattle.progressive_runs.proofs.table.copy.Statement.{statement}
+use Rattle.progressive_runs.proofs.table.copy.Tie as tie
+
+abbrev Inv-loop : tie.InvT-loop
+Inv-loop table copied₀ i₀ copied i = (i ≤ length table) × (length copied ≡ length copied₀)
+
+abbrev μ-loop : tie.MeasureT-loop
+μ-loop table copied₀ i₀ copied i = length table - i
+
+loop-holds : tie.Need-loop-holds Inv-loop μ-loop
+loop-holds c = search needs
+
+mul-store : tie.Need-mul-store Inv-loop μ-loop
+mul-store c = search needs
+
+shared-slice-read-store : tie.Need-shared-slice-read-store Inv-loop μ-loop
+shared-slice-read-store c = search needs
+
+store-requires : tie.Need-store-requires Inv-loop μ-loop
+store-requires c κs = search needs
+
+add-i : tie.Need-add-i Inv-loop μ-loop
+add-i c = search needs
+
+loop-less : tie.Need-loop-less Inv-loop μ-loop
+loop-less c = search needs
+
+loop-again : tie.Need-loop-again Inv-loop μ-loop
+loop-again c = search needs
+
+same-length : tie.Need-same-length Inv-loop μ-loop
+same-length c = search needs
+
+returns : tie.Need-returns Inv-loop μ-loop
+returns c = search needs
+
+pub copy-spec : {M : Type 1} → statement M
+copy-spec =
+    tie.close
+    (tie.spec
+    Inv-loop
+    μ-loop
+    loop-holds
+    mul-store
+    shared-slice-read-store
+    store-requires
+    add-i
+    loop-less
+    loop-again
+    same-length
+    returns)
