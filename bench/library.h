@@ -19,4 +19,14 @@ extern uint32_t oysterfold_read_mesh(const uint8_t *decl, size_t decl_len, const
                                      size_t specular_len, uint32_t *texture,
                                      size_t texture_len, uint64_t *result, size_t result_len);
 
+/* One step up; counts: positions, faces, in and out. */
+extern uint32_t oysterfold_up(const uint32_t *list, size_t list_len, uint32_t shadings,
+                              uint32_t *faces, size_t faces_len, uint32_t *positions,
+                              size_t positions_len, uint32_t *counts, size_t counts_len);
+
+/* One step down; the same. */
+extern uint32_t oysterfold_down(const uint32_t *list, size_t list_len, uint32_t shadings,
+                                uint32_t *faces, size_t faces_len, uint32_t *positions,
+                                size_t positions_len, uint32_t *counts, size_t counts_len);
+
 #endif
