@@ -16,11 +16,11 @@ from u3d import (  # noqa: E402 (after the setting above)
 CRATES = Path("crates")
 
 
-def run_files(crate, inputs, stdout):
-    """The stored files of one run, by path; `inputs` are (name, bytes)."""
+def run_files(crate, inputs, stdout, more=()):
+    """The stored files of one run, by path; `inputs` are (name, bytes), `more` further arguments."""
     folder = CRATES / crate
     files = {folder / "data" / name: data for name, data in inputs}
-    files[folder / "args"] = lines(name for name, _ in inputs)
+    files[folder / "args"] = lines([*(name for name, _ in inputs), *more])
     files[folder / "stdout"] = stdout
     return files
 
@@ -184,6 +184,13 @@ def climb_report(case):
         sys.exit("%s: %s" % (case.name, differs))
 
 
+def climb_mesh():
+    """The program for people on one sample."""
+    data, text, calls = climb_files.sample()
+    inputs = [("sample.u3d", data), ("sample.climb", text)]
+    return run_files("climb_mesh", inputs, climb_calls.listing(data, text, calls), [calls])
+
+
 def write(files):
     for path, data in files.items():
         path.parent.mkdir(parents=True, exist_ok=True)
@@ -206,7 +213,8 @@ def differences(files):
 def main(arguments):
     if arguments not in ([], ["--check"]):
         sys.exit("usage: make_runs.py [--check]")
-    runs = (list_blocks, walk_runs, cut_runs, coder_runs, mesh_runs, read_mesh, progressive_runs)
+    runs = (list_blocks, walk_runs, cut_runs, coder_runs, mesh_runs, read_mesh, progressive_runs,
+            climb_mesh)
     files = {path: data for run in runs for path, data in run().items()}
     if not arguments:
         write(files)

@@ -9,9 +9,9 @@ shadings; of a refused text no words are lent.
 
 from typing import NamedTuple
 
-from u3d import climb, mesh
+from u3d import blocks, climb, mesh
 from u3d.blocks import PROGRAM_LIMIT
-from u3d.climb import Counts, Tally
+from u3d.climb import COUNT_LIMIT, Counts, Tally
 
 FILL = 0xA5A5A5A5
 
@@ -190,3 +190,48 @@ def call_fields(session, call, numbers):
         yield "breathed", *session.breathe(a, b)
     else:
         session.change(operation, a, b)
+
+
+# The program climb_mesh.
+
+# Lengths of its tables: all faces and positions, and more than a file of 64 KiB can hold of the
+# other pools and of a climb list.
+LISTING_ROOM = (COUNT_LIMIT * climb.FACE_SIZE, COUNT_LIMIT * climb.POSITION_SIZE, *(PROGRAM_LIMIT // 4,) * 4)
+STEP_ROOM = 20480
+
+
+def listing(data, text, calls):
+    """The program's whole output, for a file that has a base mesh."""
+    return "".join("\t".join(map(str, fields)) + "\n"
+                   for fields in listing_fields(data, text, calls)).encode("ascii")
+
+
+def listing_fields(data, text, calls):
+    number, place, rows = blocks.walk(data, PROGRAM_LIMIT)
+    yield "steps", 1
+    yield "file", number, place
+    made = 0
+    if number == mesh.DONE:
+        read = mesh.read_base(data, rows, mesh.base_meshes(rows)[0], LISTING_ROOM)
+        part = "none" if read.number == mesh.DONE else mesh.PARTS[read.part]
+        yield "mesh", read.number, part, read.place, read.counts[mesh.POSITIONS], read.counts[mesh.FACES]
+        if read.number == mesh.DONE:
+            made = yield from climb_fields(read, text, calls)
+    yield "end", made
+
+
+def climb_fields(read, text, calls):
+    """The lines of the climb text and of the calls; answers how many were made."""
+    steps = [0] * STEP_ROOM
+    number, place, words = climb.read_climb(text, steps)
+    if len(text) > PROGRAM_LIMIT:
+        number, place, words = mesh.TOO_LARGE, 0, 0
+    yield "climb", number, place, steps[2] if words else 0
+    if number != climb.DONE:
+        return 0
+    counts = Counts(read.counts[mesh.POSITIONS], read.counts[mesh.FACES])
+    for letter in calls:
+        step = climb.up if letter == "u" else climb.down
+        number, counts = step(steps[:words], read.shading_count, *read.tables[:2], counts)
+        yield letter, number, *counts
+    return len(calls)

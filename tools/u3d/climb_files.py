@@ -10,14 +10,16 @@ The 4,097th split can't be stored: 4,096 of them take 143,360 bytes. A step tabl
 is made by a call.
 """
 
+from u3d import blocks
 from u3d.block_files import Dice
 from u3d.climb import (
     ABSENT, CORNER_SIZE, FACE_SIZE, ClimbList, Step, climb_text, read_climb, step_table)
 from u3d.climb_calls import (
     BREATHE, DOWN, FILL_STEPS, LEND_STEPS, LEND_TABLES, SET_COUNTS, SET_FACE, SET_POSITION,
     SET_SHADINGS, SET_STEP, UP, Case, Session)
-from u3d.mesh import COUNT_LIMIT, Shading, declaration_data, face_record
-from u3d.mesh_files import TRIANGLE_COUNTS, base_of, declared, many_faces, random_faces
+from u3d.mesh import COUNT_LIMIT, FACES, Shading, base_meshes, declaration_data, face_record, read_base
+from u3d.mesh_files import base_of, declared, many_faces, random_faces
+from u3d.mesh_files import sample as mesh_sample
 
 HUGE = 0xFFFFFFFF
 # Room for the example and a few numbers more.
@@ -650,3 +652,18 @@ def cases():
         many_steps, bad_counts, no_steps, no_room, passing_limits, bad_numbers, bad_faces, bad_moves,
         down_twice_pair, bad_records, orders, refused_parts, generated, changed, breaths, mutants)
     return [case for group in groups for case in group()]
+
+
+# The sample of the program climb_mesh.
+
+def sample():
+    """The mesh sample, a climb text for its first base mesh, and calls. The last step is not
+    allowed: it moves a corner that holds another position."""
+    data = mesh_sample()
+    rows = blocks.walk(data)[2]
+    read = read_base(data, rows, base_meshes(rows)[0], (ROOM[0] * 9,) * 6)
+    faces, positions = read.counts[:2]
+    corners = [read.tables[FACES][FACE_SIZE * face:][1:FACE_SIZE:CORNER_SIZE] for face in range(faces)]
+    climb = random_list(Dice(9), corners, positions, read.shading_count, 5, 4)
+    wrong = Step(positions, ONE, ((0, 0), (0, 1)))
+    return data, climb_text(climb._replace(steps=climb.steps + (wrong,))), "duuududuuuuuddddddu"

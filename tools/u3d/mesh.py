@@ -371,12 +371,28 @@ PARTS = ("declaration", "continuation")
 def listing(data):
     """The program's whole output."""
     number, _, rows = blocks.walk(data, PROGRAM_LIMIT)
-    bases = [at for at, block_type, *_ in rows if block_type == BASE_MESH_BLOCK]
+    bases = base_meshes(rows)
     lines = ["meshes\t1"]
     for at in bases:
-        lines += _mesh_lines(blocks.data_part(data, at), _declared(data, rows, at))
+        lines += _mesh_lines(data, rows, at)
     lines += ["end\t%d\t%d" % (number, len(bases))]
     return "".join(line + "\n" for line in lines).encode("ascii")
+
+
+def base_meshes(rows):
+    """The offsets of a file's base meshes."""
+    return [at for at, block_type, *_ in rows if block_type == BASE_MESH_BLOCK]
+
+
+def read_base(data, rows, at, room):
+    """A base mesh under the last declaration of its name; 8 where there is none."""
+    continuation = blocks.data_part(data, at)
+    name = mesh_name(continuation)
+    same = [declaration for declaration in _declared(data, rows, at)
+            if name is not None and mesh_name(declaration) == name]
+    if not same:
+        return _answer_without(continuation)
+    return read_mesh(same[0], continuation, [[0] * length for length in room])
 
 
 def _declared(data, rows, before):
@@ -385,14 +401,9 @@ def _declared(data, rows, before):
             if block_type == DECLARATION_BLOCK and at < before]
 
 
-def _mesh_lines(continuation, declarations):
-    """A base mesh under the last declaration of its name; 8 where there is none."""
-    name = mesh_name(continuation)
-    same = [data for data in declarations if name is not None and mesh_name(data) == name]
-    mesh = _answer_without(continuation)
-    if same:
-        mesh = read_mesh(same[0], continuation, [[0] * length for length in LISTING_ROOM])
-    yield "mesh\t%s" % _escaped(name or b"")
+def _mesh_lines(data, rows, at):
+    mesh = read_base(data, rows, at, LISTING_ROOM)
+    yield "mesh\t%s" % _escaped(mesh_name(blocks.data_part(data, at)) or b"")
     if mesh.number != DONE:
         yield "answer\t%d\t%s\t%d" % (mesh.number, PARTS[mesh.part], mesh.place)
         return

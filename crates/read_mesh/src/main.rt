@@ -1,19 +1,14 @@
 // Reads each base mesh of the file that its argument names, or of standard input where there is none, and prints its name, the
 // answer, its counts, and how many faces each shading has.
 mod print;
-mod rows;
 
 use blocks::file::Walk;
 use blocks::file::walk_blocks;
 use blocks::parts::data_part;
 use fields::field::bytes_at;
 use fields::limits::LARGEST_PROGRAM_FILE;
-use fields::name::NameField;
-use fields::name::name_at;
-use fields::numbers::BAD_NAME;
 use fields::numbers::OVER_LIMIT;
 use fields::numbers::Refusal;
-use fields::numbers::TRUNCATED;
 use input::Input;
 use libc::STDERR_FILENO;
 use mesh::base::MeshRead;
@@ -26,8 +21,8 @@ use print::print_name;
 use print::print_refusal;
 use print::print_text;
 use print::print_uses;
-use rows::Found;
-use rows::declaration_before;
+use rows::Declared;
+use rows::declaration_of;
 use rows::is_base_mesh;
 use rows::offset_in;
 
@@ -73,21 +68,12 @@ fn print_without(number: u32) {
     print_refusal(Part::Continuation, Refusal { number, place: 0 });
 }
 
-// A base mesh that has a name.
-fn print_named(file: &[u8], table: &[u32], row: usize, continuation: &[u8]) {
-    match declaration_before(file, table, row, mesh_name(continuation)) {
-        Found::Nothing => print_without(BAD_NAME),
-        Found::At(at) => print_mesh(data_part(file, at), continuation),
-    }
-}
-
 fn print_base_mesh(file: &[u8], table: &[u32], row: usize) {
     let continuation = data_part(file, offset_in(table, row));
     print_name(mesh_name(continuation));
-    match name_at(continuation, 0) {
-        NameField::Missing => print_without(TRUNCATED),
-        NameField::Long => print_without(BAD_NAME),
-        NameField::Size(_) => print_named(file, table, row, continuation),
+    match declaration_of(file, table, row) {
+        Declared::Refused(number) => print_without(number),
+        Declared::At(at) => print_mesh(data_part(file, at), continuation),
     }
 }
 

@@ -1,0 +1,61 @@
+-- Rows of a walk's table, and the declaration that a base mesh goes with: the last before it that has its name.
+use Prim.Native.Nat.{ℕ, zero, suc, _+_, _*_, _/_}
+use mathlib.Core.Bool.{Bool, false}
+use mathlib.Core.List.{List}
+use lib.Dec.{eqb, ltb}
+use lib.ListN.{getD, length}
+use Rattle.fields.specs.Judged.{Judged, done, refused, onDone, pick}
+use Rattle.fields.specs.Name.{nameAt, same}
+use Rattle.fields.specs.Numbers.{badName}
+use Rattle.blocks.specs.Parts.{dataPart}
+use Rattle.mesh.specs.Declaration.{meshName}
+use Rattle.rows.specs.declared.Declared.{Declared}
+use Rattle.rows.specs.declared.Declared.the-variants.{At, Refused}
+
+-- offset, type, data size, meta data size, depth
+abbrev pub rowWidth : ℕ
+rowWidth = 5
+
+-- 0xFFFFFF31
+abbrev pub meshDeclaration : ℕ
+meshDeclaration = 4294967089
+
+-- 0xFFFFFF3B
+abbrev pub baseMesh : ℕ
+baseMesh = 4294967099
+
+-- a word of a row; 0 where the table has no such row
+unfoldable pub wordIn : List ℕ → ℕ → ℕ → ℕ
+wordIn table row i = pick (ltb row (length table / rowWidth)) (getD table (row * rowWidth + i) 0) 0
+
+-- the data of a row's block
+abbrev pub dataIn : List ℕ → List ℕ → ℕ → List ℕ
+dataIn file table row = dataPart file (wordIn table row 0)
+
+abbrev pub whereNamed : Judged ℕ → Bool → Bool
+whereNamed (done size) test = test
+whereNamed (refused n p) test = false
+
+-- data that begins with this name
+unfoldable pub hasName : List ℕ → List ℕ → Bool
+hasName s name = whereNamed (nameAt s 0) (same (meshName s) name)
+
+-- the row of a mesh declaration of this name
+unfoldable pub declares : List ℕ → List ℕ → List ℕ → ℕ → Bool
+declares file table name row = pick (eqb (wordIn table row 1) meshDeclaration) (hasName (dataIn file table row) name) false
+
+-- the offset of the last such declaration below a row; 8 where there is none
+unfoldable pub declaredBelow : List ℕ → List ℕ → List ℕ → ℕ → Judged ℕ
+declaredBelow file table name zero = refused badName 0
+declaredBelow file table name (suc row) =
+    pick (declares file table name row) (done (wordIn table row 0)) (declaredBelow file table name row)
+
+-- the same for the base mesh of a row, whose own name is judged first
+unfoldable pub declaredFor : List ℕ → List ℕ → ℕ → Judged ℕ
+declaredFor file table row =
+    onDone (nameAt (dataIn file table row) 0) λ size. declaredBelow file table (meshName (dataIn file table row)) row
+
+-- 01's number of each case, at place 0 of the base mesh
+unfoldable pub declaredGiven : Declared → Judged ℕ
+declaredGiven (At at) = done at
+declaredGiven (Refused n) = refused n 0

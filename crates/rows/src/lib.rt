@@ -1,0 +1,97 @@
+// Rows of a walk's table, and the declaration that a base mesh goes with.
+use blocks::parts::data_part;
+use fields::name::NameField;
+use fields::name::is_same;
+use fields::name::name_at;
+use fields::numbers::BAD_NAME;
+use fields::numbers::TRUNCATED;
+use mesh::declaration::mesh_name;
+ghost use mathlib.Core.Path.{_≡_};
+ghost use Prim.Native.Nat.{_<_};
+ghost use lib.Dec.{eqb};
+ghost use Rattle.rows.specs.Rows.{baseMesh, declaredBelow, declaredFor, declaredGiven, declares, hasName, rowWidth, wordIn};
+
+// Block types.
+const MESH_DECLARATION: u32 = 0xFFFFFF31;
+
+const BASE_MESH: u32 = 0xFFFFFF3B;
+
+// The words of a row: offset, type, data size, meta data size, depth.
+const ROW_WIDTH: usize = 5;
+
+// The offset of a base mesh's declaration in the file, or the number that refuses the base mesh.
+pub enum Declared {
+    At(usize),
+    Refused(u32),
+}
+
+// A word of a row, 0 where the table has no such row.
+fn word_in(table: &[u32], row: usize, i: usize) -> u32
+    requires { ⌜ i < rowWidth ⌝ }
+    ensures { λ r. ⌜ r ≡ wordIn (now (table .entry)) row i ⌝ }
+{
+    if row < table.len() / ROW_WIDTH {
+        return table[row * ROW_WIDTH + i];
+    }
+    0
+}
+
+// The offset of a row's block.
+pub fn offset_in(table: &[u32], row: usize) -> usize
+    ensures { λ r. ⌜ r ≡ wordIn (now (table .entry)) row 0 ⌝ }
+{
+    word_in(table, row, 0) as usize
+}
+
+// Whether a row's block is a base mesh.
+pub fn is_base_mesh(table: &[u32], row: usize) -> bool
+    ensures { λ r. ⌜ r ≡ eqb (wordIn (now (table .entry)) row 1) baseMesh ⌝ }
+{
+    word_in(table, row, 1) == BASE_MESH
+}
+
+// Whether the data begins with this name.
+fn has_name(s: &[u8], name: &[u8]) -> bool
+    ensures { λ r. ⌜ r ≡ hasName (now (s .entry)) (now (name .entry)) ⌝ }
+{
+    match name_at(s, 0) {
+        NameField::Missing => false,
+        NameField::Long => false,
+        NameField::Size(_) => is_same(mesh_name(s), name),
+    }
+}
+
+fn is_declaration(file: &[u8], table: &[u32], row: usize, name: &[u8]) -> bool
+    ensures { λ r. ⌜ r ≡ declares (now (file .entry)) (now (table .entry)) (now (name .entry)) row ⌝ }
+{
+    if word_in(table, row, 1) != MESH_DECLARATION {
+        return false;
+    }
+    has_name(data_part(file, offset_in(table, row)), name)
+}
+
+// The last mesh declaration of this name before a row, inside a chain or not.
+fn declaration_before(file: &[u8], table: &[u32], row: usize, name: &[u8]) -> Declared
+    ensures { λ r. ⌜ declaredGiven r ≡ declaredBelow (now (file .entry)) (now (table .entry)) (now (name .entry)) row ⌝ }
+{
+    let mut left = row;
+    while 0 < left {
+        left -= 1;
+        if is_declaration(file, table, left, name) {
+            return Declared::At(offset_in(table, left));
+        }
+    }
+    Declared::Refused(BAD_NAME)
+}
+
+// The declaration of the base mesh in a row: the last before it that has its name. Its own name may be cut (1) or too long (8).
+pub fn declaration_of(file: &[u8], table: &[u32], row: usize) -> Declared
+    ensures { λ r. ⌜ declaredGiven r ≡ declaredFor (now (file .entry)) (now (table .entry)) row ⌝ }
+{
+    let continuation = data_part(file, offset_in(table, row));
+    match name_at(continuation, 0) {
+        NameField::Missing => Declared::Refused(TRUNCATED),
+        NameField::Long => Declared::Refused(BAD_NAME),
+        NameField::Size(_) => declaration_before(file, table, row, mesh_name(continuation)),
+    }
+}
