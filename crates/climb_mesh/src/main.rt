@@ -229,11 +229,11 @@ fn main() {
     }
     let length = os::arg(3, &mut word);
     if os::errno() != 0 {
-        os::fail(b"calls");
+        print_message(b"at most 4,096 calls\n");
         return;
     }
     if !are_letters(&word[..length]) {
-        print_message(b"a call is u or d\n");
+        print_message(b"a call is u (up) or d (down)\n");
         return;
     }
     run(&word[..length]);
