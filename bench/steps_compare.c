@@ -118,8 +118,8 @@ static uint32_t put_step(uint32_t r, uint32_t faces) {
 
 static void make_round(void) {
     make_base();
-    uint32_t steps = random_below(MOST_STEPS + 1), r = present.counts[COUNT_POSITIONS];
-    uint32_t faces = present.counts[COUNT_FACES];
+    uint32_t steps = once_in(20) ? 0 : 1 + random_below(MOST_STEPS);
+    uint32_t r = present.counts[COUNT_POSITIONS], faces = present.counts[COUNT_FACES];
     put(r);
     put(faces);
     put(steps);
@@ -206,9 +206,16 @@ static bool agree(bool up) {
     return plain_number == library_number && same(&plain, &library);
 }
 
+/* Mostly a way in which there is a step. */
+static bool pick_way(void) {
+    uint32_t k = present.counts[COUNT_POSITIONS] - present.list[0];
+    if (once_in(12)) return once_in(2);
+    return k == 0 || (k < present.list[2] && random_below(10) < 6);
+}
+
 /* One call; where nothing was damaged its result is kept. */
 static bool make_call(void) {
-    bool up = random_below(10) < 6, damaged = once_in(2);
+    bool up = pick_way(), damaged = once_in(2);
     given = present;
     if (damaged && once_in(4)) damage_edge(&given, up);
     else if (damaged) damage(&given);
