@@ -272,6 +272,19 @@ def bad_tables():
     return cases
 
 
+def full_tables():
+    """A step of zeros: 64 moves are a repeated pair, for 64 new faces there is no room. With 65 of
+    either the step table is as long as they need, and not of the form."""
+    cases = []
+    for name, at, width, number in (("moves", 7, 2, 14), ("faces", 8, 4, 12)):
+        calls = [(SET_STEP, 2, 1), (FILL_STEPS, 3, 0)]
+        for count in (64, 65):
+            calls += [(SET_STEP, at, count), (LEND_STEPS, 9 + width * count, 0), UP]
+        cases.append(calls_case("13-%s-65" % name, (number, 13), calls, ClimbList(3, 1),
+                                lengths=(*ROOM[:2], 300)))
+    return cases
+
+
 def many_steps():
     """4,096 steps of nothing but zeros, and 4,097."""
     size = 3 + 6 * 4096
@@ -649,8 +662,8 @@ def mutants():
 def cases():
     groups = (
         good_texts, bad_lines, bad_limits, bad_orders, bad_ends, good_steps, full_steps, bad_tables,
-        many_steps, bad_counts, no_steps, no_room, passing_limits, bad_numbers, bad_faces, bad_moves,
-        down_twice_pair, bad_records, orders, refused_parts, generated, changed, breaths, mutants)
+        full_tables, many_steps, bad_counts, no_steps, no_room, passing_limits, bad_numbers, bad_faces,
+        bad_moves, down_twice_pair, bad_records, orders, refused_parts, generated, changed, breaths, mutants)
     return [case for group in groups for case in group()]
 
 

@@ -19,6 +19,8 @@ use print::print_mesh;
 use print::print_text;
 use progressive::counts::Counts;
 use state::State;
+use stored::Lengths;
+use stored::are_within;
 use stored::calls_of;
 use stored::continuation_of;
 use stored::declaration_of;
@@ -33,6 +35,9 @@ const FACE_ROOM: usize = 1245203;
 const POSITION_ROOM: usize = 196611;
 
 const STEP_ROOM: usize = 24585;
+
+// Room for the tables of most files.
+const SMALL_ROOM: usize = 8192;
 
 const POOL_ROOM: usize = 4096;
 
@@ -89,8 +94,8 @@ fn run_with(file: &[u8], faces: &mut [u32], positions: &mut [u32], steps: &mut [
     perform_all(calls_of(file), steps, faces, positions, state);
 }
 
-// The same with tables of the lengths that the file asks for.
-fn run_lengths(file: &[u8], faces: &mut [u32]) {
+// The same with tables of the lengths that the file asks for, in the rooms for the largest.
+fn run_large(file: &[u8], faces: &mut [u32]) {
     let mut positions = [0u32; POSITION_ROOM];
     let mut steps = [0u32; STEP_ROOM];
     let lengths = lengths_of(file);
@@ -109,12 +114,34 @@ fn run_lengths(file: &[u8], faces: &mut [u32]) {
 
 // The large table is lent as an array: its length is then known by its type.
 fn run_within(file: &[u8], faces: &mut [u32; FACE_ROOM]) {
-    run_lengths(file, faces);
+    run_large(file, faces);
+}
+
+fn run_with_room(file: &[u8]) {
+    let mut faces = [0u32; FACE_ROOM];
+    run_within(file, &mut faces);
+}
+
+// Most tables are small.
+fn run_small(file: &[u8], lengths: Lengths) {
+    let mut faces = [0u32; SMALL_ROOM];
+    let mut positions = [0u32; SMALL_ROOM];
+    let mut steps = [0u32; SMALL_ROOM];
+    run_with(
+        file,
+        filled(&mut faces, lengths.faces),
+        filled(&mut positions, lengths.positions),
+        filled(&mut steps, lengths.steps),
+    );
 }
 
 fn run_file(file: &[u8]) {
-    let mut faces = [0u32; FACE_ROOM];
-    run_within(file, &mut faces);
+    let lengths = lengths_of(file);
+    if are_within(lengths, SMALL_ROOM) {
+        run_small(file, lengths);
+    } else {
+        run_with_room(file);
+    }
 }
 
 fn print_name(i: usize) {

@@ -42,6 +42,17 @@ pub(crate) fn lengths_of(file: &[u8]) -> Lengths {
     }
 }
 
+// Whether each table has at most so many words.
+pub(crate) fn are_within(lengths: Lengths, room: usize) -> bool {
+    if room < lengths.faces {
+        return false;
+    }
+    if room < lengths.positions {
+        return false;
+    }
+    lengths.steps <= room
+}
+
 fn continuation_at(file: &[u8]) -> usize {
     std::num::wrapping_add_usize(HEAD_SIZE, size_at(file, 12))
 }
