@@ -1,3 +1,4 @@
+-- The number is the refusal's, or 0 with the counts stored.
 use denote.Ref.{now}
 use borrow.Author.Needs.{needs}
 use Rattle.oysterfold.proofs.Stepping.{stored-counts}

@@ -1,3 +1,4 @@
+-- Counts that are too short, or what `coarsen` promises.
 use native.Mathlib.Omega.{arith}
 use denote.Ref.{now}
 use borrow.Author.Needs.{needs}

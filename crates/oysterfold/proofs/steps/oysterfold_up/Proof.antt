@@ -1,3 +1,4 @@
+-- Counts that are too short, or what `refine` promises.
 use native.Mathlib.Omega.{arith}
 use denote.Ref.{now}
 use borrow.Author.Needs.{needs}

@@ -1,3 +1,4 @@
+-- The invariant: the corners so far are formed.
 use borrow.Author.Tests.{lt-leb, le-leb}
 use mathlib.Core.Path.{_≡_, sym}
 use mathlib.Core.Bool.{true}

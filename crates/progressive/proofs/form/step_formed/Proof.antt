@@ -1,3 +1,4 @@
+-- Each test that fails refutes a conjunct of the form; past all of them the corners decide.
 use native.Mathlib.Omega.{arith}
 use denote.Ref.{now}
 use Rattle.progressive.specs.StepTable.{stepFormed}

@@ -1,3 +1,4 @@
+-- The invariant: the walk over the table stands at step k, and all steps before it are formed.
 use borrow.Author.Tests.{not-true, not-false}
 use Prim.Native.Nat.{_-_}
 use denote.Ref.{now}

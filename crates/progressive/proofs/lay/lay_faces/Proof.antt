@@ -1,3 +1,4 @@
+-- The corners that move lie within the faces before the step, the new records within the room that was judged.
 use native.Mathlib.Omega.{arith}
 use denote.Ref.{now}
 use borrow.Author.Needs.{needs}

@@ -1,3 +1,4 @@
+-- The new records lie within the room that was judged, the moved corners within the faces below the step.
 use native.Mathlib.Omega.{arith}
 use denote.Ref.{now}
 use borrow.Author.Needs.{needs}

@@ -1,3 +1,4 @@
+-- The invariant: the first coordinates are written, and the rest of the table is as it was.
 use mathlib.Core.Path.{refl}
 use Prim.Native.Nat.{_≤_, _-_}
 use Rattle.progressive.specs.Indexed.{from}

@@ -1,3 +1,4 @@
+-- The invariant: the first corners are written, and the rest of the table is as it was.
 use Rattle.progressive.specs.Indexed.{always}
 use Rattle.progressive.specs.Rules.{cornerIndex}
 use Rattle.progressive.proofs.Laying.{corner-index}

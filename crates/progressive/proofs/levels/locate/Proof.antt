@@ -1,3 +1,4 @@
+-- Each test that fails refutes a conjunct of the counts' agreement; past all of them the walk arrived at the level.
 use mathlib.Core.Path.{_≡_, _∙_, ap, sym}
 use mathlib.Core.Bool.{true}
 use Prim.Native.Nat.{ℕ, _-_}

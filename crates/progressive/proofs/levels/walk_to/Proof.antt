@@ -1,3 +1,4 @@
+-- The invariant: the walk stands at level j, between the steps `last` and `next`, with the faces so far.
 use Prim.Native.Nat.{_-_}
 use denote.Ref.{now}
 use borrow.Author.Needs.{needs}

@@ -1,3 +1,4 @@
+-- The present counts refute, or the target's decide.
 use borrow.Author.Needs.{needs}
 use borrow.Author.Tests.{not-false, not-true}
 use Rattle.progressive.proofs.Indexed.{first-failed, first-passed}

@@ -1,3 +1,4 @@
+-- The numbers refute, or the corners decide.
 use borrow.Author.Needs.{needs}
 use borrow.Author.Tests.{not-false, not-true}
 use denote.Ref.{now}

@@ -1,3 +1,4 @@
+-- Each test that fails refutes a conjunct; past them the positions decide.
 use native.Mathlib.Omega.{arith}
 use Rattle.progressive.specs.Mesh.{fits}
 use Rattle.progressive.proofs.Formed.{test-failed}

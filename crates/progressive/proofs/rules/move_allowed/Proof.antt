@@ -1,6 +1,6 @@
+-- The invariant: the move's corner is none of those so far.
 use borrow.Author.Tests.{not-true, not-false}
-use mathlib.Core.Path.{_∙_}
-use mathlib.Core.Path.{_≡_, sym}
+use mathlib.Core.Path.{_∙_, _≡_, sym}
 use mathlib.Core.Bool.{true}
 use Prim.Native.Nat.{_≤_, _-_}
 use denote.Ref.{now}

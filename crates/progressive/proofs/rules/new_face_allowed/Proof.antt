@@ -1,3 +1,4 @@
+-- The shading refutes, or the three positions decide.
 use denote.Ref.{now}
 use Rattle.progressive.proofs.Allowing.{shading-passed, shading-refused}
 use borrow.Author.Needs.{needs}

@@ -1,3 +1,4 @@
+-- The invariant: the new faces so far are allowed.
 use Rattle.progressive.specs.Indexed.{all}
 use Rattle.progressive.specs.Rules.{newFaceNumbers}
 use Rattle.progressive.proofs.Allowing.{new-face-test}

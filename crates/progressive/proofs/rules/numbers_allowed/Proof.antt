@@ -1,3 +1,4 @@
+-- Each test that fails refutes a conjunct; past them the new faces decide.
 use borrow.Author.Tests.{not-true, not-false}
 use native.Mathlib.Omega.{arith}
 use denote.Ref.{now}

@@ -1,3 +1,4 @@
+-- Other faces are other corners; in one face the corners decide.
 use denote.Ref.{now}
 use Rattle.progressive.proofs.Allowing.{corners-decide, faces-differ}
 use borrow.Author.Needs.{needs}

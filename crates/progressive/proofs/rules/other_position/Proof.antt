@@ -1,3 +1,4 @@
+-- By the two tests.
 use borrow.Author.Tests.{lt-ltb, le-ltb}
 use Rattle.progressive.specs.Rules.{otherPosition}
 use Rattle.progressive.proofs.rules.other_position.Statement.{statement}

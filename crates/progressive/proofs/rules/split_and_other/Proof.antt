@@ -1,3 +1,4 @@
+-- By the first of the two that is the split position.
 use borrow.Author.Tests.{eq-eqb, ne-eqb}
 use borrow.Author.Needs.{needs}
 use Rattle.progressive.specs.Rules.{splitAndOther}

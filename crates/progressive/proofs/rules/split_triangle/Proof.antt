@@ -1,3 +1,4 @@
+-- By the first of the three that is the new position.
 use borrow.Author.Tests.{eq-eqb, ne-eqb}
 use borrow.Author.Needs.{needs}
 use Rattle.progressive.specs.Rules.{splitTriangle}

@@ -1,3 +1,4 @@
+-- The invariant: the corners so far hold the value.
 use Rattle.progressive.specs.Indexed.{always, shows}
 use Rattle.progressive.specs.Rules.{cornerIndex}
 use Rattle.progressive.proofs.Laying.{corner-index}

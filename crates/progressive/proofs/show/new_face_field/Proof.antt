@@ -1,3 +1,4 @@
+-- By the four fields that are given; all others are absent.
 use denote.Ref.{now}
 use Rattle.progressive.specs.Laying.{newFaceField}
 use Rattle.progressive.proofs.Laying.{field-absent, field-given}

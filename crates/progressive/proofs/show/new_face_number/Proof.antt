@@ -1,3 +1,4 @@
+-- The code's place of the new face is the definition's.
 use denote.Ref.{now}
 use Rattle.progressive.proofs.Laying.{new-face-field}
 use borrow.Author.Needs.{needs}

@@ -1,3 +1,4 @@
+-- The faces refute, or the position decides.
 use borrow.Author.Tests.{not-true, not-false}
 use Rattle.progressive.specs.Laying.{clearAfter}
 use Rattle.progressive.proofs.Indexed.{first-failed, first-passed}

@@ -1,3 +1,4 @@
+-- Corners and records refute, or the coordinates decide.
 use Rattle.progressive.proofs.Laying.{corners-not-shown, records-not-shown, shown-by-coordinates}
 use borrow.Author.Tests.{not-true, not-false}
 use native.Mathlib.Omega.{arith}

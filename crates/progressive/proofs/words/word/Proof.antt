@@ -1,3 +1,4 @@
+-- Past the end the list gives its default.
 use mathlib.Core.Path.{sym}
 use lib.ListN.{List·getD-eq-default}
 use denote.Ref.{now}
