@@ -19,23 +19,23 @@ anyDecimal = decimal 0 anyNumber
 abbrev pub countRule : Rule
 countRule = decimal 0 largestCount
 
--- "Header: version 1, base positions, base faces"
+-- "Header: version 1, base positions, base faces", after the word climb
 abbrev pub headForm : Form
 headForm = record { word = 0x63 ∷ 0x6C ∷ 0x69 ∷ 0x6D ∷ 0x62 ∷ []; rules = decimal 1 1 ∷ countRule ∷ countRule ∷ [] }
 
--- "Split: position, x, y, z"
+-- "Split: position, x, y, z", after the word split
 abbrev pub splitForm : Form
 splitForm = record { word = 0x73 ∷ 0x70 ∷ 0x6C ∷ 0x69 ∷ 0x74 ∷ []; rules = anyDecimal ∷ pattern ∷ pattern ∷ pattern ∷ [] }
 
--- "moves (face, corner)", "corners 0 to 2"
+-- "moves (face, corner)", "corners 0 to 2", after the word move
 abbrev pub moveForm : Form
 moveForm = record { word = 0x6D ∷ 0x6F ∷ 0x76 ∷ 0x65 ∷ []; rules = anyDecimal ∷ decimal 0 2 ∷ [] }
 
--- "new faces (shading, three positions)"
+-- "new faces (shading, three positions)", after the word face
 abbrev pub faceForm : Form
 faceForm = record { word = 0x66 ∷ 0x61 ∷ 0x63 ∷ 0x65 ∷ []; rules = anyDecimal ∷ anyDecimal ∷ anyDecimal ∷ anyDecimal ∷ [] }
 
--- "End: step count"
+-- "End: step count", after the word end
 abbrev pub endForm : ℕ → Form
 endForm steps = record { word = 0x65 ∷ 0x6E ∷ 0x64 ∷ []; rules = decimal steps steps ∷ [] }
 

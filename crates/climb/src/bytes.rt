@@ -1,7 +1,7 @@
-// Bytes of a text, and words of a table.
+// Bytes of a text.
 ghost use mathlib.Core.Path.{_≡_};
 ghost use Prim.Native.Nat.{_≤_};
-ghost use lib.ListN.{length, set};
+ghost use lib.ListN.{length};
 ghost use Rattle.climb.specs.Inside.{Found};
 
 // The index of the next such byte from `from` on, or the length where there is none.
@@ -17,13 +17,4 @@ pub(crate) fn find(s: &[u8], from: usize, stop: u8) -> usize
         i = i + 1;
     }
     i
-}
-
-// Stores a word where there is room.
-pub(crate) fn put(table: &mut [u32], i: usize, value: u32)
-    ensures { λ _. ⌜ now (table .exit) ≡ set (now (table .entry)) i value ⌝ }
-{
-    if i < table.len() {
-        table[i] = value;
-    }
 }

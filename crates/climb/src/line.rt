@@ -1,10 +1,10 @@
 // A line of the text: its first field is a word, and a table of rules judges the others.
 use crate::bytes::find;
-use crate::bytes::put;
 use crate::digits::Number;
 use crate::digits::decimal;
 use crate::digits::pattern;
 use fields::name::is_same;
+use fields::words::put;
 ghost use mathlib.Core.Path.{_≡_};
 ghost use Prim.Native.Nat.{ℕ, _+_, _*_, _≤_, _<_};
 ghost use lib.ListN.{drop, length};

@@ -1,5 +1,4 @@
 // The lines of the text one after the other: rows of one form, steps, and the whole text.
-use crate::bytes::put;
 use crate::digits::ANY;
 use crate::line::Row;
 use crate::line::read_row;
@@ -8,6 +7,7 @@ use fields::limits::LARGEST_COUNT;
 use fields::limits::MOST_MOVES;
 use fields::limits::MOST_NEW_FACES;
 use fields::limits::MOST_STEPS;
+use fields::words::put;
 ghost use mathlib.Core.Path.{_≡_};
 ghost use Prim.Native.Nat.{_+_, _*_, _≤_};
 ghost use lib.ListN.{drop, length};

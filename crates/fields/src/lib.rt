@@ -3,3 +3,4 @@ pub mod field;
 pub mod limits;
 pub mod name;
 pub mod numbers;
+pub mod words;

@@ -1,12 +1,12 @@
 // The coded faces of a base mesh (clause 9.6.1.2.4.6): a shading id, then three corners of the fields that it asks for.
 use crate::declaration::Declaration;
 use crate::shading::LAYERS;
-use crate::tables::put;
 use coder::histogram::SYMBOLS;
 use coder::histogram::fresh_histogram;
 use coder::interval::Coder;
 use coder::read::Read;
 use fields::numbers::OUT_OF_RANGE;
+use fields::words::put;
 ghost use mathlib.Core.Path.{_≡_};
 ghost use mathlib.Core.List.{[], _∷_};
 ghost use Prim.Native.Nat.{_*_, _^_, _<_, _≤_};

@@ -3,7 +3,7 @@ use crate::faces::FACE_WORDS;
 ghost use mathlib.Core.Path.{_≡_};
 ghost use mathlib.Core.List.{_++_};
 ghost use Prim.Native.Nat.{_-_, _*_, _^_, _≤_, _<_};
-ghost use lib.ListN.{length, replicate, set, take};
+ghost use lib.ListN.{length, replicate, take};
 ghost use Rattle.mesh.specs.Base.{hasRoom, tableCount, wordsIn};
 ghost use Rattle.mesh.specs.Inside.{wordsBefore};
 
@@ -15,15 +15,6 @@ pub const POSITION_WORDS: usize = 3;
 
 // The words of an entry in each table.
 const WIDTHS: [usize; TABLES] = [FACE_WORDS, POSITION_WORDS, 3, 4, 4, 4];
-
-// Stores a word where there is room.
-pub(crate) fn put(table: &mut [u32], i: usize, value: u32)
-    ensures { λ _. ⌜ now (table .exit) ≡ set (now (table .entry)) i value ⌝ }
-{
-    if i < table.len() {
-        table[i] = value;
-    }
-}
 
 // Sets a table to zeros from an index on.
 pub(crate) fn clear_from(table: &mut [u32], from: usize)

@@ -6,7 +6,7 @@ use crate::form::move_corner;
 use crate::form::move_face;
 use crate::show::new_face_number;
 use crate::words::number;
-use crate::words::word;
+use fields::words::word;
 use mesh::faces::CORNER_FIELDS;
 use mesh::faces::FACE_WORDS;
 ghost use mathlib.Core.Path.{_≡_};

@@ -8,7 +8,7 @@ use crate::form::STEP_WORDS;
 use crate::form::move_corner;
 use crate::form::move_face;
 use crate::words::number;
-use crate::words::word;
+use fields::words::word;
 use mesh::faces::ABSENT;
 use mesh::faces::CORNER_FIELDS;
 use mesh::faces::FACE_WORDS;

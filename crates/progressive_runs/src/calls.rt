@@ -8,8 +8,8 @@ use crate::state::with_counts;
 use crate::stored::Call;
 use crate::stored::call_count;
 use crate::stored::call_in;
-use crate::table::store;
 use crate::table::store_from;
+use fields::words::put;
 use progressive::counts::Counts;
 
 // Operations.
@@ -57,9 +57,9 @@ fn change_table(call: Call, steps: &mut [u32], faces: &mut [u32], positions: &mu
     let operation = call.operation;
     let at = call.a as usize;
     match operation {
-        SET_FACE => store(faces, at, call.b),
-        SET_POSITION => store(positions, at, call.b),
-        SET_STEP => store(steps, at, call.b),
+        SET_FACE => put(faces, at, call.b),
+        SET_POSITION => put(positions, at, call.b),
+        SET_STEP => put(steps, at, call.b),
         FILL_STEPS => store_from(steps, at, call.b),
         _ => {}
     }

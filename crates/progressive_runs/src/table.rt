@@ -1,4 +1,5 @@
 // Tables that are lent to a call.
+use fields::words::put;
 
 // What every word holds before the first call.
 const FILL: u32 = 0xA5A5A5A5;
@@ -41,18 +42,11 @@ pub(crate) fn lent_steps(table: &[u32], length: usize) -> &[u32] {
     &table[0..length]
 }
 
-// Stores a word where the table has it.
-pub(crate) fn store(table: &mut [u32], at: usize, word: u32) {
-    if at < table.len() {
-        table[at] = word;
-    }
-}
-
 // Copies a table, as far as the copy has room.
 pub(crate) fn copy(table: &[u32], copied: &mut [u32]) {
     let mut i: usize = 0;
     while i < table.len() {
-        store(&mut *copied, i, table[i]);
+        put(&mut *copied, i, table[i]);
         i += 1;
     }
 }

@@ -3,8 +3,8 @@ use mathlib.Core.Path.{sym}
 use lib.ListN.{List·getD-eq-default}
 use denote.Ref.{now}
 use borrow.Author.Needs.{needs}
-use Rattle.progressive.proofs.words.word.Statement.{statement}
-use Rattle.progressive.proofs.words.word.Tie as tie
+use Rattle.fields.proofs.words.word.Statement.{statement}
+use Rattle.fields.proofs.words.word.Tie as tie
 
 mul-result : tie.Need-mul-result
 mul-result c = search needs

@@ -3,8 +3,8 @@ use mathlib.Core.Path.{sym}
 use borrow.Author.Needs.{needs}
 use denote.Ref.{now}
 use lib.Seq.{set-out}
-use Rattle.mesh.proofs.tables.put.Statement.{statement}
-use Rattle.mesh.proofs.tables.put.Tie as tie
+use Rattle.fields.proofs.words.put.Statement.{statement}
+use Rattle.fields.proofs.words.put.Tie as tie
 
 mul-table : tie.Need-mul-table
 mul-table c = search needs
