@@ -7,5 +7,5 @@ pub mod header;
 pub mod kind;
 mod padding;
 pub mod parts;
-mod tell;
+pub mod tell;
 mod walk;

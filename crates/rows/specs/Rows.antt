@@ -8,23 +8,19 @@ use Rattle.fields.specs.Judged.{Judged, done, refused, onDone, pick}
 use Rattle.fields.specs.Name.{nameAt, same}
 use Rattle.fields.specs.Numbers.{badName}
 use Rattle.blocks.specs.Parts.{dataPart}
+use Rattle.blocks.specs.Told.{rowWidth}
 use Rattle.mesh.specs.Declaration.{meshName}
 use Rattle.rows.specs.declared.Declared.{Declared}
 use Rattle.rows.specs.declared.Declared.the-variants.{At, Refused}
 
--- offset, type, data size, meta data size, depth
-abbrev pub rowWidth : ℕ
-rowWidth = 5
-
--- 0xFFFFFF31
+-- the block types (01: "by last byte under 0xFFFFFF")
 abbrev pub meshDeclaration : ℕ
-meshDeclaration = 4294967089
+meshDeclaration = 0xFFFFFF31
 
--- 0xFFFFFF3B
 abbrev pub baseMesh : ℕ
-baseMesh = 4294967099
+baseMesh = 0xFFFFFF3B
 
--- a word of a row; 0 where the table has no such row
+-- a word of a row (offset, type, data size, meta data size, depth); 0 where the table has no such row
 unfoldable pub wordIn : List ℕ → ℕ → ℕ → ℕ
 wordIn table row i = pick (ltb row (length table / rowWidth)) (getD table (row * rowWidth + i) 0) 0
 

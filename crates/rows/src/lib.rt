@@ -1,5 +1,6 @@
 // Rows of a walk's table, and the declaration that a base mesh goes with.
 use blocks::parts::data_part;
+use blocks::tell::ROW_WIDTH;
 use fields::name::NameField;
 use fields::name::is_same;
 use fields::name::name_at;
@@ -9,15 +10,13 @@ use mesh::declaration::mesh_name;
 ghost use mathlib.Core.Path.{_≡_};
 ghost use Prim.Native.Nat.{_<_};
 ghost use lib.Dec.{eqb};
-ghost use Rattle.rows.specs.Rows.{baseMesh, declaredBelow, declaredFor, declaredGiven, declares, hasName, rowWidth, wordIn};
+ghost use Rattle.blocks.specs.Told.{rowWidth};
+ghost use Rattle.rows.specs.Rows.{baseMesh, declaredBelow, declaredFor, declaredGiven, declares, hasName, wordIn};
 
 // Block types.
 const MESH_DECLARATION: u32 = 0xFFFFFF31;
 
 const BASE_MESH: u32 = 0xFFFFFF3B;
-
-// The words of a row: offset, type, data size, meta data size, depth.
-const ROW_WIDTH: usize = 5;
 
 // The offset of a base mesh's declaration in the file, or the number that refuses the base mesh.
 pub enum Declared {
