@@ -1,3 +1,3 @@
-pub mod Walk
+pub mod Result
 pub mod Mesh
 pub mod Steps

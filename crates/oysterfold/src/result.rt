@@ -1,8 +1,14 @@
-// The words of a result.
+// The words of a result: the place, and after it what the call gives back.
+use fields::numbers::Refusal;
 ghost use mathlib.Core.Path.{_≡_};
 ghost use Prim.Native.Nat.{_≤_};
 ghost use lib.ListN.{length};
 ghost use lib.Seq.{sets};
+ghost use Rattle.fields.specs.Judged.{done, refusedBy};
+ghost use Rattle.oysterfold.specs.Result.{numberOf, resultWords, wordsOf};
+
+// Place and value.
+pub(crate) const RESULT_WORDS: usize = 2;
 
 // Stores words from the start on.
 pub(crate) fn put_words(result: &mut [u64], words: &[u64])
@@ -14,4 +20,26 @@ pub(crate) fn put_words(result: &mut [u64], words: &[u64])
         result[i] = words[i];
         i = i + 1;
     }
+}
+
+// Tells a value, at place 0.
+pub(crate) fn told(result: &mut [u64], value: u64) -> u32
+    requires { ⌜ resultWords ≤ length (now result) ⌝ }
+    ensures { λ r. ⌜ r ≡ numberOf (done value) ⌝ }
+    ensures { λ r. ⌜ now (result .exit) ≡ sets (now (result .entry)) 0 (wordsOf (done value)) ⌝ }
+{
+    let words = [0, value];
+    put_words(result, &words);
+    0
+}
+
+// Tells a refusal: its place, and 0 for the value.
+pub(crate) fn refused(result: &mut [u64], e: Refusal) -> u32
+    requires { ⌜ resultWords ≤ length (now result) ⌝ }
+    ensures { λ r. ⌜ r ≡ numberOf (refusedBy e) ⌝ }
+    ensures { λ r. ⌜ now (result .exit) ≡ sets (now (result .entry)) 0 (wordsOf (refusedBy e)) ⌝ }
+{
+    let words = [e.place as u64, 0];
+    put_words(result, &words);
+    e.number
 }

@@ -1,0 +1,28 @@
+-- What an exported function hands back beside the tables: 01's number, and in the result's first two words place and value.
+use Prim.Native.Nat.{ℕ}
+use mathlib.Core.List.{List, [], _∷_}
+use lib.Dec.{ltb}
+use lib.ListN.{length}
+use lib.Seq.{sets}
+use Rattle.fields.specs.Numbers.{noRoom}
+use Rattle.fields.specs.Judged.{Judged, done, refused, pick, refusedIf}
+
+abbrev pub resultWords : ℕ
+resultWords = 2
+
+abbrev pub numberOf : Judged ℕ → ℕ
+numberOf (done value) = 0
+numberOf (refused n p) = n
+
+-- "place first"; "every other result 0"
+abbrev pub wordsOf : Judged ℕ → List ℕ
+wordsOf (done value) = 0 ∷ value ∷ []
+wordsOf (refused n p) = p ∷ 0 ∷ []
+
+-- a result too short for them is 12, before all else
+unfoldable pub answerIn : List ℕ → Judged ℕ → Judged ℕ
+answerIn result answer = refusedIf (ltb (length result) resultWords) noRoom 0 answer
+
+-- and stays as it was
+unfoldable pub resultOf : Judged ℕ → List ℕ → List ℕ
+resultOf answer result = pick (ltb (length result) resultWords) result (sets result 0 (wordsOf answer))
