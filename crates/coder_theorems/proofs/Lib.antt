@@ -7,4 +7,4 @@ pub mod RoundTrip
 pub mod Inner
 pub mod Steady
 pub mod States
-pub mod Examples
+pub mod ExampleRun

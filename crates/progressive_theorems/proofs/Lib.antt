@@ -6,5 +6,4 @@ pub mod BaseRead
 pub mod CallList
 pub mod InWords
 pub mod Triangle
-pub mod Examples
 pub mod TextFormed
