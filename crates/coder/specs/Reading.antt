@@ -8,7 +8,6 @@ use Rattle.coder.specs.Interval.{Coder}
 use Rattle.coder.specs.Values.{Found, readAfter, readDynamic, readPlain, readStatic}
 use Rattle.coder.specs.Writing.{kept}
 use Rattle.coder.specs.declared.read.Read.{Read}
-use Rattle.coder.specs.declared.read.Width.{Width}
 use Rattle.fields.specs.Limits.{largestFile}
 use Rattle.fields.specs.Numbers.{badState, outOfRange, overLimit, truncated}
 use lib.Dec.{leb, ltb}
@@ -16,7 +15,6 @@ use lib.ListN.{length}
 use mathlib.Core.Bool.{Bool, true, false, _&&_, _||_, not}
 use mathlib.Core.List.{List}
 use Rattle.coder.specs.declared.read.Read as read
-use Rattle.coder.specs.declared.read.Width as width
 
 -- 01's number, and whether the answer is done: just where the number is 0
 pub record Taken : Type 0 where
@@ -46,12 +44,6 @@ readNumber look d s contextGood rangeGood settled valueGood =
 unfoldable pub taken : ℕ → Found → Coder → Taken
 taken zero found s = record { number = 0; done = true; value = found .value; state = found .state }
 taken (suc n) found s = record { number = suc n; done = false; value = 0; state = s }
-
--- the bytes of a plain value
-abbrev pub bytesIn : Width → ℕ
-bytesIn width.the-variants.U8 = 1
-bytesIn width.the-variants.U16 = 2
-bytesIn width.the-variants.U32 = 4
 
 -- n plain bytes
 unfoldable pub takePlain : Bool → ℕ → List ℕ → Coder → Taken

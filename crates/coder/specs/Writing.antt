@@ -1,6 +1,6 @@
 -- What the writer answers for every input: 01's number, the state, and the bytes that the caller's buffer then holds. A refusal's
 -- place is always 0.
-use Prim.Native.Nat.{ℕ, zero, suc}
+use Prim.Native.Nat.{ℕ, zero, suc, _^_}
 use Rattle.coder.specs.Bytes.{bytesOf, storeBits}
 use Rattle.coder.specs.Ending.{endBits, endState}
 use Rattle.coder.specs.Forms.{first, fits, unless, writerFormed}
@@ -9,6 +9,7 @@ use Rattle.coder.specs.Interval.{Coder, Span, fresh}
 use Rattle.coder.specs.Symbols.{afterSymbols, dynamicAfter, dynamicSpans, plainSpans, staticSpans, symbolsBits}
 use Rattle.coder.specs.declared.ending.Ended.{Ended}
 pub use Rattle.coder.specs.declared.write.Writer.{Writer}
+use Rattle.coder.specs.declared.write.Width.{Width}
 use Rattle.coder.specs.declared.write.Written.{Written}
 use Rattle.fields.specs.Limits.{largestFile}
 use Rattle.fields.specs.Numbers.{badState, noRoom, outOfRange, overLimit}
@@ -17,6 +18,7 @@ use lib.ListN.{length}
 use mathlib.Core.Bool.{Bool, true, false, _||_}
 use mathlib.Core.List.{List}
 use Rattle.coder.specs.declared.ending.Ended as ended
+use Rattle.coder.specs.declared.write.Width as width
 use Rattle.coder.specs.declared.write.Written as written
 
 -- a writer also knows whether a compressed value was written
@@ -56,9 +58,16 @@ write zero l w compresses spans =
     }
 write (suc n) l w compresses spans = record { number = suc n; done = false; writer = w; bytes = l }
 
--- n plain bytes
+-- the bytes of a plain value
+abbrev pub bytesIn : Width → ℕ
+bytesIn width.the-variants.U8 = 1
+bytesIn width.the-variants.U16 = 2
+bytesIn width.the-variants.U32 = 4
+
+-- n plain bytes: the value is one of theirs
 unfoldable pub writePlain : ℕ → List ℕ → Writer → ℕ → Write
-writePlain n l w v = write (writeNumber l (w .coder) true true (afterSymbols (w .coder) (plainSpans n v))) l w false (plainSpans n v)
+writePlain n l w v =
+    write (writeNumber l (w .coder) true (ltb v (256 ^ n)) (afterSymbols (w .coder) (plainSpans n v))) l w false (plainSpans n v)
 
 -- a static range: the value is below it
 unfoldable pub writeStatic : ℕ → List ℕ → Writer → ℕ → Write

@@ -8,13 +8,15 @@ ghost use Rattle.coder.specs.Bytes.{bitAt};
 ghost use Rattle.coder.specs.Forms.{isRun, pendingInverted};
 ghost use Rattle.coder.specs.Inside.{Reading, Stepped, countFault, foundAs, valueNumber};
 ghost use Rattle.coder.specs.Interval.{code, target, WellFormed, largestRange};
-ghost use Rattle.coder.specs.Reading.{bytesIn, readFault, readGiven, taken, takePlain, takeStatic};
+ghost use Rattle.coder.specs.Reading.{readFault, readGiven, taken, takePlain, takeStatic};
 ghost use Rattle.coder.specs.Values.{readPlain, symbolValue};
+ghost use Rattle.coder.specs.Writing.{bytesIn};
 ghost use lib.Dec.{leb};
 use crate::bits::bit_at;
 use crate::bits::word_at;
 use crate::interval::Coder;
 use crate::reverse::reversed;
+use crate::write::Width;
 use crate::write::static_span;
 use fields::limits::LARGEST_FILE;
 use fields::numbers::BAD_STATE;
@@ -41,13 +43,6 @@ pub struct Found {
 pub(crate) struct Start {
     pub fault: u32,
     pub number: u32,
-}
-
-// Plain values by their width.
-pub enum Width {
-    U8,
-    U16,
-    U32,
 }
 
 // Whether count bits from a place are all equal to bit. Past the end every bit is 0, so the rest of a run is not walked.

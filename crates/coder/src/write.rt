@@ -3,13 +3,13 @@ ghost use Rattle.fields.specs.Limits.{largestFile};
 ghost use mathlib.Core.Path.{_≡_};
 ghost use mathlib.Core.Bool.{_||_};
 ghost use mathlib.Core.List.{_∷_};
-ghost use Prim.Native.Nat.{_+_, _*_, _<_, _≤_};
+ghost use Prim.Native.Nat.{_+_, _*_, _^_, _<_, _≤_};
 ghost use Rattle.coder.specs.Bytes.{putBits};
 ghost use Rattle.coder.specs.Forms.{fits, limitsFormed};
 ghost use Rattle.coder.specs.Inside.{Holds, Room, writeRoom};
 ghost use Rattle.coder.specs.Interval.{Codable, WellFormed};
 ghost use Rattle.coder.specs.Symbols.{afterSymbols, byteSpan, plainSpans, staticSpan, symbolsBits};
-ghost use Rattle.coder.specs.Writing.{freshWriter, writeFault, writePlain, writeStatic, writtenGiven};
+ghost use Rattle.coder.specs.Writing.{bytesIn, freshWriter, writeFault, writePlain, writeStatic, writtenGiven};
 use crate::bits::pad;
 use crate::interval::Coder;
 use crate::interval::Span;
@@ -26,6 +26,13 @@ pub struct Writer {
     pub compressed: bool,
 }
 
+// Plain values by their width.
+pub enum Width {
+    U8,
+    U16,
+    U32,
+}
+
 // The number of a refusal comes with the state that was handed in.
 pub enum Written {
     Done(Writer),
@@ -39,6 +46,28 @@ fn either(a: bool, b: bool) -> bool
         return true;
     }
     b
+}
+
+// The largest plain value of a width.
+fn largest_in(width: Width) -> u32
+    ensures { λ r. ⌜ r + 1 ≡ 256 ^ bytesIn width ⌝ }
+{
+    match width {
+        Width::U8 => 0xFF,
+        Width::U16 => 0xFFFF,
+        Width::U32 => 0xFFFFFFFF,
+    }
+}
+
+// The bytes of a plain value after its first.
+fn more_bytes(width: Width) -> u32
+    ensures { λ r. ⌜ (r + 1 ≡ bytesIn width) × (r ≤ 3) ⌝ }
+{
+    match width {
+        Width::U8 => 0,
+        Width::U16 => 1,
+        Width::U32 => 3,
+    }
 }
 
 // A value in a static range.
@@ -198,33 +227,18 @@ impl Writer {
         self.write_led(buf, true, byte_span(value), value / 256, 3)
     }
 
-    // Writes a plain value of more + 1 bytes.
-    fn write_plain(self, buf: &mut [u8], value: u32, more: u32) -> Written
-        requires { ⌜ more ≤ 3 ⌝ }
-        ensures { λ r. ⌜ writtenGiven r (now (buf .exit)) ≡ writePlain (more + 1) (now (buf .entry)) self value ⌝ }
+    // Writes a plain value of one, two or four bytes.
+    pub fn write_plain(self, buf: &mut [u8], width: Width, value: u32) -> Written
+        ensures { λ r. ⌜ writtenGiven r (now (buf .exit)) ≡ writePlain (bytesIn width) (now (buf .entry)) self value ⌝ }
     {
         let fault = self.coder.write_fault(buf.len());
         if fault != 0 {
             return Written::Refused(fault, self);
         }
+        if largest_in(width) < value {
+            return Written::Refused(OUT_OF_RANGE, self);
+        }
+        let more = more_bytes(width);
         self.write_led(buf, false, byte_span(value), value / 256, more)
-    }
-
-    pub fn write_u8(self, buf: &mut [u8], value: u8) -> Written
-        ensures { λ r. ⌜ writtenGiven r (now (buf .exit)) ≡ writePlain 1 (now (buf .entry)) self value ⌝ }
-    {
-        self.write_plain(buf, value as u32, 0)
-    }
-
-    pub fn write_u16(self, buf: &mut [u8], value: u16) -> Written
-        ensures { λ r. ⌜ writtenGiven r (now (buf .exit)) ≡ writePlain 2 (now (buf .entry)) self value ⌝ }
-    {
-        self.write_plain(buf, value as u32, 1)
-    }
-
-    pub fn write_u32(self, buf: &mut [u8], value: u32) -> Written
-        ensures { λ r. ⌜ writtenGiven r (now (buf .exit)) ≡ writePlain 4 (now (buf .entry)) self value ⌝ }
-    {
-        self.write_plain(buf, value, 3)
     }
 }

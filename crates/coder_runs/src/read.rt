@@ -4,7 +4,7 @@ use crate::record::Call;
 use coder::histogram::SYMBOLS;
 use coder::interval::Coder;
 use coder::read::Read;
-use coder::read::Width;
+use coder::write::Width;
 
 // The sum is that of the values so far, modulo 2^32; the total is that of a histogram read by TAKE_DYNAMIC.
 pub struct Answer {

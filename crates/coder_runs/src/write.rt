@@ -2,6 +2,7 @@
 use crate::record;
 use crate::record::Call;
 use coder::histogram::SYMBOLS;
+use coder::write::Width;
 use coder::write::Writer;
 use coder::write::Written;
 
@@ -20,9 +21,9 @@ fn answer_of(written: Written) -> Answer {
 // Writes the low bytes of a value: one, two or four.
 fn write_plain(writer: Writer, buf: &mut [u8], bytes: u32, value: u32) -> Written {
     match bytes {
-        1 => writer.write_u8(buf, (value % 0x100) as u8),
-        2 => writer.write_u16(buf, (value % 0x10000) as u16),
-        _ => writer.write_u32(buf, value),
+        1 => writer.write_plain(buf, Width::U8, value % 0x100),
+        2 => writer.write_plain(buf, Width::U16, value % 0x10000),
+        _ => writer.write_plain(buf, Width::U32, value),
     }
 }
 

@@ -1,6 +1,6 @@
 -- A number that a call wrote is read back by the reader's call in the same context, from any data that continue what the call left: the
 -- reader is pointed to the number's symbols, and passes each test because the writer did.
-use Prim.Native.Nat.{ℕ, _<_}
+use Prim.Native.Nat.{ℕ, _^_, _<_}
 use Rattle.coder.proofs.Backward.{Pointed}
 use Rattle.coder_theorems.proofs.Continuing.{Continues, end-back, symbols-back}
 use Rattle.coder.proofs.Judgements.{Readable, Writable, end-zero, histogram-true, looked-hold, read-hold, write-passed, write-zero}
@@ -79,7 +79,7 @@ pub call-back : (d l : List ℕ) (w : Writer) (hs : Histograms) (c : Context) (v
 unfolding callRead callWrite dynamicNumber takeDynamic takeNumber takePlain takeStatic taken takenHistogram write writeDynamic writePlain
     writeStatic writtenHistogram
 call-back d l w hs (plain n) v t e h =
-    let b = back d l w true true false (plainSpans n v) (λ _ _. plain-codable n v) e h in
+    let b = back d l w true (ltb v (256 ^ n)) false (plainSpans n v) (λ _ _. plain-codable n v) e h in
     let f = plain-found n v (bitAt d) (w .coder) t (b .pointed) in
     (rw (f, b .done, b .passes true true refl refl), b .earlier)
 call-back d l w hs (static range) v t e h =

@@ -1,6 +1,6 @@
 -- What a call that is done hands out is good, for every input: its state is well formed, its value within its context, and its histogram
 -- well formed. The tests that it passed give what the laws of symbols and of found values ask for.
-use Prim.Native.Nat.{ℕ, zero, suc, _≤_, _<_}
+use Prim.Native.Nat.{ℕ, zero, suc, _^_, _≤_, _<_}
 use Rattle.coder.proofs.Counts.{quick-on}
 use Rattle.coder_theorems.proofs.Ends.{end-cases}
 use Rattle.coder.proofs.Found.{LeadsOn, dynamic-on, plain-on, range-on}
@@ -51,7 +51,7 @@ module _ (l : List ℕ) (w : Writer) (contextGood valueGood compresses : Bool) (
 pub writePlain-formed : (n : ℕ) (l : List ℕ) (w : Writer) (v : ℕ) → (writePlain n l w v) .number ≡ 0
     → writerFormed ((writePlain n l w v) .writer .coder) (length l) ≡ true
 unfolding writePlain
-writePlain-formed n l w v e = write-formed l w true true false (plainSpans n v) (λ c g. plain-codable n v) e
+writePlain-formed n l w v e = write-formed l w true (ltb v (256 ^ n)) false (plainSpans n v) (λ c g. plain-codable n v) e
 
 pub writeStatic-formed : (range : ℕ) (l : List ℕ) (w : Writer) (v : ℕ) → (writeStatic range l w v) .number ≡ 0
     → writerFormed ((writeStatic range l w v) .writer .coder) (length l) ≡ true

@@ -1,9 +1,13 @@
 -- A plain value is its low byte and the bytes after it.
-use Rattle.coder.proofs.Led.{led-judged, number-fault, plain-led, write-refused}
-use mathlib.Core.Path.{refl, sym, _∙_}
+use Prim.Native.Nat.{ℕ, _^_, _≤_, _<_}
+use mathlib.Core.Path.{ap, refl, sym, _∙_}
 use mathlib.Core.Bool.{true}
-use Rattle.coder.specs.Writing.{writePlain}
+use Rattle.coder.specs.Symbols.{plainSpans}
+use Rattle.coder.specs.Writing.{bytesIn, writePlain}
 use Rattle.coder.proofs.Judgements.{writable}
+use borrow.Author.Tests.{le-ltb, lt-ltb}
+use native.Mathlib.Omega.{arith}
+use Rattle.coder.proofs.Led.{led-judged, number-fault, number-value, plain-led, write-refused}
 use Rattle.coder.proofs.Sequence.{byte-codable}
 use borrow.Author.Needs.{needs}
 use Rattle.coder.proofs.write.Writer.write_plain.Statement.{statement}
@@ -16,18 +20,39 @@ returns : tie.Need-returns
 unfolding writePlain
 returns c = write-refused _ _ (c .if1 .taken) (number-fault _ _ _ _ _ _ (c .before .write-fault .ensures) (c .if1 .taken))
 
+largest-in-requires : tie.Need-largest-in-requires
+largest-in-requires c κs = search needs
+
+returns-2 : tie.Need-returns-2
+unfolding writePlain
+returns-2 c =
+    let a = c .before .before .before .before .before .args in
+    let above : 256 ^ bytesIn (a .width) ≤ a .value = rw (← c .before .largest-in .ensures) (omega (arith, c .if2 .taken)) in
+    write-refused _ _ (λ e. omega arith)
+    (number-value _ _ true _ _ _ (c .before .before .before .write-fault .ensures) (c .before .before .if1 .left) refl (le-ltb (a .value) (256 ^ bytesIn (a .width)) above))
+
+more-bytes-requires : tie.Need-more-bytes-requires
+more-bytes-requires c κs = search needs
+
 byte-span-requires : tie.Need-byte-span-requires
 byte-span-requires c κs = search needs
 
 write-led-requires : tie.Need-write-led-requires
-write-led-requires c κs = let ok = writable (c .before .before .before .before .before .args .self .coder) _ (sym (c .before .before .before .write-fault .ensures) ∙ c .before .before .if1 .left) in (ok .limits, ((rw (c .byte-span .ensures) (byte-codable _), search needs), record { small = ok .small; within = ok .holds }))
+write-led-requires c κs =
+    let ok = writable (c .before .before .before .before .before .before .before .before .args .self .coder) _ (sym (c .before .before .before .before .before .before .write-fault .ensures) ∙ c .before .before .before .before .before .if1 .left) in
+    (ok .limits, ((rw (c .byte-span .ensures) (byte-codable _), omega (arith, c .before .before .more-bytes .ensures .1)), record { small = ok .small; within = ok .holds }))
 
 same-length : tie.Need-same-length
 same-length c = search needs
 
-returns-2 : tie.Need-returns-2
+returns-3 : tie.Need-returns-3
 unfolding writePlain
-returns-2 c = led-judged _ (c .before .before .before .before .before .before .before .before .args .self) _ true true _ _ _ _ (c .before .before .before .before .before .before .write-fault .ensures) (c .before .before .before .before .before .if1 .left) refl refl (plain-led (c .before .before .before .before .before .before .before .before .args .more) (c .before .before .before .before .before .before .before .before .args .value)) (rw (← c .before .before .before .byte-span .ensures) (c .before .before .write-led .ensures))
+returns-3 c =
+    let a = c .before .before .before .before .before .before .before .before .before .before .before .args in
+    let below : a .value < 256 ^ bytesIn (a .width) = rw (← c .before .before .before .before .before .before .before .largest-in .ensures) (omega (arith, c .before .before .before .before .before .before .if2 .left)) in
+    let spans = plain-led (c .before .before .before .before .before .more-bytes .result) (a .value) ∙ ap (λ (n : ℕ). plainSpans n (a .value)) (c .before .before .before .before .before .more-bytes .ensures .0) in
+    led-judged _ (a .self) _ true _ _ _ _ _ (c .before .before .before .before .before .before .before .before .before .write-fault .ensures) (c .before .before .before .before .before .before .before .before .if1 .left) refl (lt-ltb (a .value) (256 ^ bytesIn (a .width)) below) spans
+    (rw (← c .before .before .before .byte-span .ensures) (c .before .before .write-led .ensures))
 
 pub write-plain-spec : {M : Type 1} → statement M
 write-plain-spec =
@@ -35,7 +60,10 @@ write-plain-spec =
     (tie.spec
     write-fault-requires
     returns
+    largest-in-requires
+    returns-2
+    more-bytes-requires
     byte-span-requires
     write-led-requires
     same-length
-    returns-2)
+    returns-3)
