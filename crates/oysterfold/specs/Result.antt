@@ -20,7 +20,7 @@ wordsOf (done value) = 0 ∷ value ∷ []
 wordsOf (refused n p) = p ∷ 0 ∷ []
 
 -- a result too short for them is 12, before all else
-unfoldable pub answerIn : List ℕ → Judged ℕ → Judged ℕ
+unfoldable pub answerIn : {A : Type 0} → List ℕ → Judged A → Judged A
 answerIn result answer = refusedIf (ltb (length result) resultWords) noRoom 0 answer
 
 -- and stays as it was

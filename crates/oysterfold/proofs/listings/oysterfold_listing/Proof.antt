@@ -2,6 +2,7 @@
 use borrow.Author.Needs.{needs}
 use denote.Ref.{now}
 use Rattle.fields.specs.Limits.{largestFile}
+use Rattle.fields.specs.Judged.{bufferAfter}
 use Rattle.fields.proofs.Judging.{told}
 use Rattle.listing.specs.Listing.{listingGiven, listingOf, written}
 use Rattle.oysterfold.proofs.Results.{handed, too-short}
@@ -12,7 +13,8 @@ returns : tie.Need-returns
 returns c =
     let a = c .before .before .before .before .args in
     let words = listingOf largestFile (now (a .file)) in
-    too-short (written words (now (a .text))) words (now (a .text)) (now (a .result)) (c .if1 .taken)
+    let j = written words (now (a .text)) in
+    too-short j j (λ k. bufferAfter k words (now (a .text))) (now (a .result)) (c .if1 .taken)
 
 list-file-requires : tie.Need-list-file-requires
 list-file-requires c κs = search needs
@@ -39,7 +41,8 @@ returns-2 : tie.Need-returns-2
 returns-2 c =
     let a = c .before .before .before .before .before .before .before .before .before .before .before .before .before .before .before .args in
     let words = listingOf largestFile (now (a .file)) in
-    handed (written words (now (a .text))) words (now (a .text)) (now (a .result)) (c .before .before .before .before .before .before .before .before .before .before .before .if1 .left) _
+    let j = written words (now (a .text)) in
+    handed j j (λ k. bufferAfter k words (now (a .text))) (now (a .result)) (c .before .before .before .before .before .before .before .before .before .before .before .if1 .left) _
     (told listingGiven (c .before .before .before .before .before .before .before .before .before .list-file .ensures .0) (c .before .before .before .before .before .bytes .given .1)) (c .before .before .before .before .before .before .before .before .before .list-file .ensures .1) (c .before .before .told .ensures .0) (c .before .before .told .ensures .1)
 
 same-length-3 : tie.Need-same-length-3
@@ -52,7 +55,8 @@ returns-3 : tie.Need-returns-3
 returns-3 c =
     let a = c .before .before .before .before .before .before .before .before .before .before .before .before .before .before .before .args in
     let words = listingOf largestFile (now (a .file)) in
-    handed (written words (now (a .text))) words (now (a .text)) (now (a .result)) (c .before .before .before .before .before .before .before .before .before .before .before .if1 .left) _
+    let j = written words (now (a .text)) in
+    handed j j (λ k. bufferAfter k words (now (a .text))) (now (a .result)) (c .before .before .before .before .before .before .before .before .before .before .before .if1 .left) _
     (told listingGiven (c .before .before .before .before .before .before .before .before .before .list-file .ensures .0) (c .before .before .before .before .before .e .given .1)) (c .before .before .before .before .before .before .before .before .before .list-file .ensures .1) (c .before .before .refused .ensures .0) (c .before .before .refused .ensures .1)
 
 pub oysterfold-listing-spec : {M : Type 1} → statement M

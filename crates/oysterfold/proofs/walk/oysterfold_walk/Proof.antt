@@ -1,6 +1,7 @@
 -- The result's length, and then the walk, decide.
 use borrow.Author.Needs.{needs}
 use denote.Ref.{now}
+use Rattle.fields.specs.Judged.{bufferAfter}
 use Rattle.fields.proofs.Judging.{told}
 use Rattle.blocks.specs.File.{fileWords, walkGiven, walkIn}
 use Rattle.oysterfold.proofs.Results.{handed, too-short}
@@ -10,7 +11,8 @@ use Rattle.oysterfold.proofs.walk.oysterfold_walk.Tie as tie
 returns : tie.Need-returns
 returns c =
     let a = c .before .before .before .before .args in
-    too-short (walkIn (now (a .file)) (now (a .rows))) (fileWords (now (a .file))) (now (a .rows)) (now (a .result)) (c .if1 .taken)
+    let j = walkIn (now (a .file)) (now (a .rows)) in
+    too-short j j (λ k. bufferAfter k (fileWords (now (a .file))) (now (a .rows))) (now (a .result)) (c .if1 .taken)
 
 walk-blocks-requires : tie.Need-walk-blocks-requires
 walk-blocks-requires c κs = search needs
@@ -36,7 +38,8 @@ same-length-2 c = search needs
 returns-2 : tie.Need-returns-2
 returns-2 c =
     let a = c .before .before .before .before .before .before .before .before .before .before .before .before .before .before .before .args in
-    handed (walkIn (now (a .file)) (now (a .rows))) (fileWords (now (a .file))) (now (a .rows)) (now (a .result)) (c .before .before .before .before .before .before .before .before .before .before .before .if1 .left) _
+    let j = walkIn (now (a .file)) (now (a .rows)) in
+    handed j j (λ k. bufferAfter k (fileWords (now (a .file))) (now (a .rows))) (now (a .result)) (c .before .before .before .before .before .before .before .before .before .before .before .if1 .left) _
     (told walkGiven (c .before .before .before .before .before .before .before .before .before .walk-blocks .ensures .0) (c .before .before .before .before .before .blocks2 .given .1)) (c .before .before .before .before .before .before .before .before .before .walk-blocks .ensures .1) (c .before .before .told .ensures .0) (c .before .before .told .ensures .1)
 
 same-length-3 : tie.Need-same-length-3
@@ -48,7 +51,8 @@ same-length-4 c = search needs
 returns-3 : tie.Need-returns-3
 returns-3 c =
     let a = c .before .before .before .before .before .before .before .before .before .before .before .before .before .before .before .args in
-    handed (walkIn (now (a .file)) (now (a .rows))) (fileWords (now (a .file))) (now (a .rows)) (now (a .result)) (c .before .before .before .before .before .before .before .before .before .before .before .if1 .left) _
+    let j = walkIn (now (a .file)) (now (a .rows)) in
+    handed j j (λ k. bufferAfter k (fileWords (now (a .file))) (now (a .rows))) (now (a .result)) (c .before .before .before .before .before .before .before .before .before .before .before .if1 .left) _
     (told walkGiven (c .before .before .before .before .before .before .before .before .before .walk-blocks .ensures .0) (c .before .before .before .before .before .e .given .1)) (c .before .before .before .before .before .before .before .before .before .walk-blocks .ensures .1) (c .before .before .refused .ensures .0) (c .before .before .refused .ensures .1)
 
 pub oysterfold-walk-spec : {M : Type 1} → statement M
