@@ -1,3 +1,4 @@
 pub mod Result
+pub mod Declaration
 pub mod Mesh
 pub mod Steps

@@ -3,13 +3,13 @@ use Prim.Native.Nat.{ℕ}
 use mathlib.Core.List.{List, [], _∷_}
 use lib.Dec.{ltb}
 use lib.ListN.{length}
-use lib.Seq.{sets}
 use Rattle.fields.specs.Numbers.{noRoom}
 use Rattle.fields.specs.Judged.{pick}
 use Rattle.mesh.specs.Base.{InPart, Mesh, Tables, countsOf, lengthsOf, meshOf, read, refusedIn}
 use Rattle.mesh.specs.declared.base.MeshCounts.{MeshCounts}
 use Rattle.mesh.specs.declared.base.Part.{Part}
 use Rattle.mesh.specs.declared.base.Part as part
+use Rattle.oysterfold.specs.Result.{resultFor}
 
 -- place, part and seven counts
 abbrev pub resultWords : ℕ
@@ -41,4 +41,4 @@ meshWords (refusedIn p n place) = countWords place (partNumber p) noCounts
 
 -- a result too short for them stays as it was
 unfoldable pub meshResult : InPart Mesh → List ℕ → List ℕ
-meshResult j result = pick (ltb (length result) resultWords) result (sets result 0 (meshWords j))
+meshResult j result = resultFor resultWords (meshWords j) result

@@ -10,7 +10,7 @@ use Rattle.fields.specs.Judged.{Judged, done, refused, pick, refusedIf}
 abbrev pub resultWords : ℕ
 resultWords = 2
 
-abbrev pub numberOf : Judged ℕ → ℕ
+abbrev pub numberOf : {A : Type 0} → Judged A → ℕ
 numberOf (done value) = 0
 numberOf (refused n p) = n
 
@@ -19,10 +19,16 @@ abbrev pub wordsOf : Judged ℕ → List ℕ
 wordsOf (done value) = 0 ∷ value ∷ []
 wordsOf (refused n p) = p ∷ 0 ∷ []
 
--- a result too short for them is 12, before all else
-unfoldable pub answerIn : {A : Type 0} → List ℕ → Judged A → Judged A
-answerIn result answer = refusedIf (ltb (length result) resultWords) noRoom 0 answer
+-- a result too short for so many words is 12, before all else
+abbrev pub answerFor : {A : Type 0} → ℕ → List ℕ → Judged A → Judged A
+answerFor words result answer = refusedIf (ltb (length result) words) noRoom 0 answer
 
 -- and stays as it was
+abbrev pub resultFor : ℕ → List ℕ → List ℕ → List ℕ
+resultFor n words result = pick (ltb (length result) n) result (sets result 0 words)
+
+unfoldable pub answerIn : {A : Type 0} → List ℕ → Judged A → Judged A
+answerIn result answer = answerFor resultWords result answer
+
 unfoldable pub resultOf : Judged ℕ → List ℕ → List ℕ
-resultOf answer result = pick (ltb (length result) resultWords) result (sets result 0 (wordsOf answer))
+resultOf answer result = resultFor resultWords (wordsOf answer) result

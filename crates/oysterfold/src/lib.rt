@@ -1,6 +1,7 @@
 // The library for other languages: exported functions over the crates below, nothing but marshalling. Each answers document 01's
 // number; the place and the other results go to `result`, which it leaves as it was where that is too short (12).
 pub mod climbs;
+pub mod declaration;
 pub mod listings;
 pub mod meshes;
 mod result;

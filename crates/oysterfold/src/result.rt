@@ -36,7 +36,7 @@ pub(crate) fn told(result: &mut [u64], value: u64) -> u32
 // Tells a refusal: its place, and 0 for the value.
 pub(crate) fn refused(result: &mut [u64], e: Refusal) -> u32
     requires { ⌜ resultWords ≤ length (now result) ⌝ }
-    ensures { λ r. ⌜ r ≡ numberOf (refusedBy e) ⌝ }
+    ensures { λ r. ⌜ r ≡ e .number ⌝ }
     ensures { λ r. ⌜ now (result .exit) ≡ sets (now (result .entry)) 0 (wordsOf (refusedBy e)) ⌝ }
 {
     let words = [e.place as u64, 0];
