@@ -2,6 +2,7 @@
 pub mod Chains
 pub mod Runs
 pub mod Declarations
+pub mod Refusals
 pub mod Numbers
 pub mod Presence
 pub mod Corners

@@ -2,7 +2,6 @@
 pub mod Below
 -- No answer of the coder is 9 or 18 here.
 pub mod SmallCounts
-pub mod NotBad
 pub mod Sound
 -- What a file states is read back.
 pub mod Seams

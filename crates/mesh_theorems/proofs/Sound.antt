@@ -26,7 +26,7 @@ use Rattle.mesh.specs.declared.declaration.Declaration.{Declaration}
 use Rattle.mesh.specs.declared.faces.CornerForm.{CornerForm}
 use Rattle.mesh.specs.declared.base.Part.{Part}
 use Rattle.mesh.specs.declared.base.Part as part
-use Rattle.mesh_theorems.proofs.NotBad.{NotBad, declaration-not-bad, head-not-bad, not-bad-if, not-bad-on, pools-not-bad, sized-not-bad}
+use Rattle.mesh.proofs.Refusals.{Numbered, declaration-numbered, head-numbered, pools-numbered, sized-numbered}
 use Rattle.mesh_theorems.proofs.SmallCounts.{counts-small}
 
 -- ---- judging that stays steady
@@ -146,6 +146,25 @@ faces-sound declaration counts n d few small k p e =
 
 -- ---- a mesh
 
+-- A refusal is not 18.
+abbrev NotBad : {A : Type 0} → Judged A → Type 0
+NotBad (done a) = Unit {0}
+NotBad (refused k p) = k ≡ badState → ⊥
+
+not-bad : {A : Type 0} (j : Judged A) → Numbered j → NotBad j
+not-bad (done a) h = tt
+not-bad (refused k p) h e = absurd (omega (arith, h, e))
+
+-- Where neither a value nor what follows from it is refused with 18, both together are not.
+not-bad-on : {A B : Type 0} (j : Judged A) (next : A → Judged B) → NotBad j → ((a : A) → j ≡ done a → NotBad (next a)) → NotBad (onDone j next)
+not-bad-on (done a) next g f = f a refl
+not-bad-on (refused k p) next g f = g
+
+-- Nor is a test whose own number is another, with what follows it.
+not-bad-if : {A : Type 0} (test : Bool) (n p : ℕ) (j : Judged A) → (n ≡ badState → ⊥) → NotBad j → NotBad (refusedIf test n p j)
+not-bad-if true n p j h g = h
+not-bad-if false n p j h g = g
+
 placed-not-bad : (place : ℕ) (j : Judged (List ℕ)) → ((k p : ℕ) → j ≡ refused k p → k ≡ badState → ⊥) → NotBad (placedAt place j)
 placed-not-bad place (done a) f = tt
 placed-not-bad place (refused k p) f = f k p refl
@@ -154,11 +173,11 @@ base-not-bad : (s name : List ℕ) (declaration : Declaration) (lengths : List �
     → NotBad (baseOf s name declaration lengths)
 unfolding baseOf
 base-not-bad s name declaration lengths small =
-    not-bad-on (headOf s name declaration) _ (head-not-bad s name declaration) λ head e.
+    not-bad-on (headOf s name declaration) _ (not-bad (headOf s name declaration) (head-numbered s name declaration)) λ head e.
     let counts = head .value in
     let n = getD counts 0 0 in
     not-bad-if (not (hasRoom lengths counts)) noRoom 0 _ (λ e. omega (arith, e))
-    (not-bad-on (poolsAt (poolWords counts) s (head .next)) _ (pools-not-bad (poolWords counts) s (head .next)) λ pools f.
+    (not-bad-on (poolsAt (poolWords counts) s (head .next)) _ (not-bad (poolsAt (poolWords counts) s (head .next)) (pools-numbered (poolWords counts) s (head .next))) λ pools f.
     let rest = drop (pools .next) s in
     let within : length rest ≤ largestFile = simp length-drop (omega arith) in
     not-bad-on (placedAt (pools .next) (facesOf declaration counts n rest)) _
@@ -181,9 +200,9 @@ sized-small s u e = ltb-false largestFile (length s) (passed (ltb largestFile (l
 whole-not-bad : (d s lengths : List ℕ) → PartNotBad (meshOf d s lengths)
 unfolding meshOf
 whole-not-bad d s lengths =
-    part-not-bad part.the-variants.Declaration (sized d) _ (sized-not-bad d) λ u e.
-    part-not-bad part.the-variants.Continuation (sized s) _ (sized-not-bad s) λ v f.
-    part-not-bad part.the-variants.Declaration (declarationOf d) _ (declaration-not-bad d) λ declaration g.
+    part-not-bad part.the-variants.Declaration (sized d) _ (not-bad (sized d) (sized-numbered d)) λ u e.
+    part-not-bad part.the-variants.Continuation (sized s) _ (not-bad (sized s) (sized-numbered s)) λ v f.
+    part-not-bad part.the-variants.Declaration (declarationOf d) _ (not-bad (declarationOf d) (declaration-numbered d)) λ declaration g.
     part-not-bad part.the-variants.Continuation (baseOf s (meshName d) declaration lengths) _
     (base-not-bad s (meshName d) declaration lengths (sized-small s v f)) λ m h. tt
 

@@ -3,6 +3,5 @@ pub mod Words
 pub mod Results
 pub mod Answers
 pub mod Stepping
-pub mod Refusals
 pub mod Whole
 pub mod Declared

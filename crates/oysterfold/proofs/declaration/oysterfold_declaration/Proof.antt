@@ -6,7 +6,7 @@ use Rattle.fields.specs.Judged.{refused}
 use Rattle.mesh.specs.Declaration.{declarationOf}
 use Rattle.oysterfold.specs.Declaration.{fieldsIn}
 use Rattle.oysterfold.proofs.Declared.{handed, read-by, refused-by, too-short}
-use Rattle.oysterfold.proofs.Refusals.{declaration-numbered}
+use Rattle.mesh.proofs.Refusals.{declaration-numbered}
 use Rattle.oysterfold.proofs.Whole.{name-inside}
 use Rattle.oysterfold.proofs.declaration.oysterfold_declaration.Statement.{statement}
 use Rattle.oysterfold.proofs.declaration.oysterfold_declaration.Tie as tie
