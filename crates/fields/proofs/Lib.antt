@@ -1,4 +1,5 @@
 -- Laws that belong to no one function.
+pub mod All
 pub mod Judging
 pub mod Bytes
 pub mod Values

@@ -1,5 +1,6 @@
 pub mod Numbers
 pub mod Limits
+pub mod All
 pub mod Judged
 pub mod Field
 pub mod Name

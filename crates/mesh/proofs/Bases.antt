@@ -8,7 +8,7 @@ use native.Mathlib.Decide.{decLt}
 use native.Mathlib.Nat.{eq-or-lt-of-le}
 use native.Mathlib.Numerals.{add-one}
 use native.Mathlib.Omega.{arith}
-use borrow.Author.Tests.{le-ltb, leb-true, lt-ltb}
+use borrow.Author.Tests.{le-ltb, lt-ltb}
 use mir.Syntax.{w8}
 use mir.Val.{Fits}
 use lib.ListN.{drop, getD, length, length-replicate, replicate, take}
@@ -22,7 +22,7 @@ use Rattle.fields.specs.declared.numbers.Refusal.{Refusal}
 use Rattle.fields.proofs.Judging.{name-within, not-done, passed, value-before}
 use Rattle.mesh.specs.Run.{Ended, anyNumber, ruledAt, runAt, unjudged, valuesOf}
 use Rattle.mesh.specs.Corners.{faceWords}
-use Rattle.mesh.specs.Base.{InPart, Mesh, Tables, answered, baseOf, baseRules, hasRoom, headOf, lengthsOf, meshOf, poolWords, poolsAt, read, refusedIn, tableCount, tableOf, tablesAfter, wordsIn}
+use Rattle.mesh.specs.Base.{InPart, Mesh, Tables, answered, baseOf, baseRules, hasRoom, headOf, lengthsOf, meshOf, poolWords, poolsAt, read, refusedIn, tableOf, tablesAfter, wordsIn}
 use Rattle.mesh.specs.Declaration.{declarationOf, meshName}
 use Rattle.mesh.specs.Faces.{facesOf}
 use Rattle.mesh.specs.Inside.{ContentsFit, FacesFit, JudgedFits, baseFaces, contentsAt, countsFrom, endedGiven, facesGiven, facesIn, facesStart, headGiven, inContinuation, judgedGiven, meshFrom, nextGiven, poolAt, poolNumbers, rulesFrom, storedFaces, storedRun, wordsBefore, wordsOr}
@@ -36,7 +36,7 @@ use Rattle.mesh.specs.declared.run.Next.the-variants.{At, Refused}
 use Rattle.mesh.proofs.Chains.{ended-value, stored-cleared, to-end}
 use Rattle.mesh.proofs.FaceRuns.{faces-length, faces-stored}
 use Rattle.mesh.proofs.Heads.{rules-length}
-use Rattle.mesh.proofs.Rooms.{every-at}
+use Rattle.mesh.proofs.Rooms.{room-at}
 use Rattle.mesh.proofs.Runs.{run-length, run-within, unjudged-rules}
 
 -- a list of bytes
@@ -241,7 +241,7 @@ pub contents-fit : (s : List ℕ) (declaration : Declaration) (counts : List ℕ
     → hasRoom lengths counts ≡ true → JudgedFits s declaration lengths r
 contents-fit s declaration counts at lengths r fit room x f =
     let k = fit x f in
-    let at-room : (i : ℕ) → i < tableCount → wordsIn counts i ≤ getD lengths i 0 = λ i h. leb-true _ _ (every-at _ tableCount i room h) in
+    let at-room = room-at lengths counts room in
     rw (k .0, k .1) (record { within = k .2; room = at-room 0 (omega arith); coded = k .3 }, at-room)
 
 -- the words before a later pool are not fewer

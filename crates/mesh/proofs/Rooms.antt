@@ -1,18 +1,18 @@
 -- The caller's tables: their words, the test for room, and zeros to a table's end.
 use Prim.Native.Nat.{ℕ, zero, suc, _+_, _-_, _≤_, _<_}
-use mathlib.Core.Path.{_≡_, _∙_, ap, refl, sym}
-use mathlib.Core.Bool.{Bool, true, false, _&&_, and-false}
+use mathlib.Core.Path.{_≡_, sym}
+use mathlib.Core.Bool.{true}
 use mathlib.Core.List.{List, _∷_, _++_, append-assoc, append-nil}
-use mathlib.Core.Logic.{⊎-elim}
-use native.Mathlib.Nat.{eq-or-lt-of-le, mul-le-mul}
+use native.Mathlib.Nat.{mul-le-mul}
 use native.Mathlib.Numerals.{add-one}
 use native.Mathlib.Omega.{arith}
+use borrow.Author.Tests.{leb-true}
 use mir.Val.{Fits}
 use mir.Syntax.{w32}
 use lib.ListN.{getD, length, length-set, replicate, set, take}
 use lib.Seq.{take-all, take-suc-set}
-use Rattle.coder.proofs.Tests.{and-both}
-use Rattle.mesh.specs.Base.{every, widths, wordsIn}
+use Rattle.fields.proofs.All.{all-at}
+use Rattle.mesh.specs.Base.{hasRoom, tableCount, tableFits, widths, wordsIn}
 use Rattle.mesh.specs.Inside.{wordsBefore}
 
 -- ---- words
@@ -39,23 +39,8 @@ before-more counts i sum words e f = rw (add-one, wordsBefore, e, f, add-one)
 
 -- ---- the test for room
 
-pub every-more : (test : ℕ → Bool) (n : ℕ) → every test n ≡ true → test n ≡ true → every test (n + 1) ≡ true
-unfolding every
-every-more test n e f = rw (add-one, every, e, f)
-
-pub every-not : (test : ℕ → Bool) (n k : ℕ) → k < n → test k ≡ false → every test n ≡ false
-unfolding every
-every-not test zero k h f = absurd (omega arith)
-every-not test (suc n) k h f =
-    ⊎-elim (λ (e : k ≡ n). ap (λ (t : Bool). every test n && t) (ap test (sym e) ∙ f) ∙ and-false (every test n))
-    (λ (l : k < n). ap (λ (t : Bool). t && test n) (every-not test n k l f)) (eq-or-lt-of-le (omega arith))
-
-pub every-at : (test : ℕ → Bool) (n k : ℕ) → every test n ≡ true → k < n → test k ≡ true
-unfolding every
-every-at test zero k e h = absurd (omega arith)
-every-at test (suc n) k e h =
-    let both = and-both (every test n) (test n) e in
-    ⊎-elim (λ (q : k ≡ n). ap test q ∙ both .1) (λ (l : k < n). every-at test n k (both .0) l) (eq-or-lt-of-le (omega arith))
+pub room-at : (lengths counts : List ℕ) → hasRoom lengths counts ≡ true → (i : ℕ) → i < tableCount → wordsIn counts i ≤ getD lengths i 0
+room-at lengths counts e i h = leb-true _ _ (all-at (tableFits lengths counts) tableCount i e h)
 
 -- ---- zeros to the end
 

@@ -1,9 +1,10 @@
 -- The base mesh (01, "Mesh declaration and base mesh"; clause 9.6.1.2): name, chain index and six base counts, then 12, the pools, the faces.
-use Prim.Native.Nat.{ℕ, zero, suc, _+_, _*_}
-use mathlib.Core.Bool.{Bool, true, false, _&&_, not}
+use Prim.Native.Nat.{ℕ, _+_, _*_}
+use mathlib.Core.Bool.{Bool, not}
 use mathlib.Core.List.{List, [], _∷_}
 use lib.Dec.{leb, ltb}
 use lib.ListN.{drop, getD, length, replicate}
+use Rattle.fields.specs.All.{all}
 use Rattle.fields.specs.Limits.{largestCount, largestFile}
 use Rattle.fields.specs.Numbers.{badName, noRoom, overLimit}
 use Rattle.fields.specs.Judged.{Judged, done, refused, onDone, pick, refusedIf}
@@ -68,14 +69,13 @@ tableCount = 6
 abbrev pub wordsIn : List ℕ → ℕ → ℕ
 wordsIn counts i = getD widths i 0 * getD counts i 0
 
--- the first n numbers all pass a test
-unfoldable pub every : (ℕ → Bool) → ℕ → Bool
-every test zero = true
-every test (suc n) = every test n && test n
+-- of tables of these lengths, table i has room
+abbrev pub tableFits : List ℕ → List ℕ → ℕ → Bool
+tableFits lengths counts i = leb (wordsIn counts i) (getD lengths i 0)
 
 -- tables of these lengths have room
 abbrev pub hasRoom : List ℕ → List ℕ → Bool
-hasRoom lengths counts = every (λ i. leb (wordsIn counts i) (getD lengths i 0)) tableCount
+hasRoom lengths counts = all (tableFits lengths counts) tableCount
 
 -- the words of the five pools
 abbrev pub poolWords : List ℕ → List ℕ

@@ -4,8 +4,7 @@ use Prim.Native.Nat.{ℕ, _≤_, _<_}
 use mathlib.Core.Bool.{not}
 use mathlib.Core.List.{List, [], _∷_, map}
 use mathlib.Core.Path.{_≡_, _∙_}
-use borrow.Author.Tests.{leb-true, not-false}
-use lib.Dec.{leb}
+use borrow.Author.Tests.{not-false}
 use lib.ListN.{drop, getD, length, length-replicate, replicate}
 use Rattle.fields.specs.Limits.{largestCount}
 use Rattle.fields.specs.Numbers.{noRoom}
@@ -17,8 +16,8 @@ use Rattle.mesh.specs.Base.{Mesh, baseOf, hasRoom, headOf, meshOf, poolWords, p
 use Rattle.mesh.specs.Declaration.{declarationOf, meshName}
 use Rattle.mesh.specs.declared.base.Part as part
 use Rattle.mesh.specs.declared.declaration.Declaration.{Declaration}
+use Rattle.mesh.proofs.Rooms.{room-at}
 use Rattle.mesh.proofs.Runs.{run-length}
-use Rattle.mesh.proofs.Rooms.{every-at}
 use Rattle.mesh_theorems.proofs.Below.{base-faces, below-length, part-before}
 use Rattle.mesh_theorems.proofs.SmallCounts.{counts-small}
 
@@ -50,7 +49,7 @@ base-housed s name declaration lengths m e =
     let states = same-done (faces .2) in
     record {
       small = rw (← states) (counts-small s name declaration (head .0) (head .1));
-      room = rw (← states) (λ i h. leb-true _ _ (every-at (λ j. leb (wordsIn counts j) (getD lengths j 0)) tableCount i (not-false _ (room .0)) h));
+      room = rw (← states) (room-at lengths counts (not-false _ (room .0)));
       faces = below-length (m .declaration) (m .counts) (getD (m .counts) 0 0) (m .faces) (base-faces s name declaration lengths m e);
       pools = rw (← states) (pools-length (poolWords counts) s (head .0 .next) (pools .0) (pools .1));
     }

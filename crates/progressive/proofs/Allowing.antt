@@ -6,7 +6,8 @@ use Prim.Native.Nat.{ℕ, _+_, _*_, _<_, _≤_}
 use borrow.Author.Tests.{lt-ltb, le-ltb, eq-eqb, ne-eqb}
 use lib.Dec.{eqb}
 use lib.ListN.{getD}
-use Rattle.progressive.specs.Indexed.{all, always, shows}
+use Rattle.fields.specs.All.{all}
+use Rattle.progressive.specs.Indexed.{always, shows}
 use Rattle.progressive.specs.StepTable.{moveCorner, moveCount, moveFace, moveWords, newFaceCount, newFaceWords, splitOf, stepWords}
 use Rattle.progressive.specs.Rules.{allowedOn, cornerIndex, moveNumbers, newFaceAllowed, newFaceNumbers, numbersAllowed, otherCorner, splitTriangle}
 use Rattle.progressive.proofs.Indexed.{first-passed}

@@ -5,11 +5,12 @@ use mathlib.Core.List.{List}
 use Prim.Native.Nat.{ℕ, _*_, _<_, _≤_}
 use native.Mathlib.Omega.{arith}
 use borrow.Author.Tests.{eq-eqb, ltb-true, leb-true}
+use Rattle.fields.specs.All.{all}
+use Rattle.fields.proofs.All.{all-at}
 use Rattle.mesh.specs.Corners.{faceWords}
-use Rattle.progressive.specs.Indexed.{all}
 use Rattle.progressive.specs.StepTable.{cornerFormed, moveCorner, moveCount, moveFace, stepFormed}
 use Rattle.progressive.specs.Rules.{cornerIndex, moveNumbers, otherCorner}
-use Rattle.progressive.proofs.Indexed.{Distinct, all-at, and-left, and-right}
+use Rattle.progressive.proofs.Indexed.{Distinct, and-left, and-right}
 
 corner-bound : (t : List ℕ) (o i : ℕ) → stepFormed t o ≡ true → i < moveCount t o → moveCorner t o i ≤ 2
 unfolding stepFormed

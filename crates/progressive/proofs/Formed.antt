@@ -8,10 +8,11 @@ use native.Mathlib.Omega.{arith}
 use borrow.Author.Tests.{leb-true, eqb-true, le-leb}
 use lib.Dec.{eqb}
 use lib.ListN.{length}
+use Rattle.fields.specs.All.{all}
 use Rattle.fields.specs.Limits.{largestCount, mostMoves, mostNewFaces, mostSteps}
-use Rattle.progressive.specs.Indexed.{all}
+use Rattle.fields.proofs.All.{all-at, all-fails, all-more}
 use Rattle.progressive.specs.StepTable.{baseFaces, basePositions, cornerFormed, facesBefore, headWords, moveCount, moveWords, newFaceCount, newFaceWords, nextStep, stepCount, stepFormed, stepFormedAt, stepOffset, stepWords, wellFormed}
-use Rattle.progressive.proofs.Indexed.{all-at, all-fails, all-more, and-left, and-right}
+use Rattle.progressive.proofs.Indexed.{and-left, and-right}
 
 -- a test that would be absurd if it passed has failed
 pub test-failed : (b : Bool) → (b ≡ true → ⊥) → false ≡ b

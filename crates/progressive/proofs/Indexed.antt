@@ -1,19 +1,19 @@
--- Laws of `all`, `writes` and `shows`: what a bounded test tells, and that stores at distinct indices can be read back, leave the rest as it was
--- and are undone by the stores of what stood there.
+-- Laws of `writes` and `shows`: stores at distinct indices can be read back, leave the rest as it was and are undone by the stores of what
+-- stood there.
 use mathlib.Core.Path.{_≡_, refl, sym, ap, _∙_}
-use mathlib.Core.Logic.{_≢_, _⊎_, inl, inr, ⊎-elim}
+use mathlib.Core.Logic.{_≢_, ⊎-elim}
 use mathlib.Core.Bool.{Bool, true, false, _&&_}
 use mathlib.Core.List.{List}
 use Prim.Native.Nat.{ℕ, zero, suc, _+_, _<_, _≤_}
 use native.Mathlib.Numerals.{add-one}
-use native.Mathlib.Nat.{not-suc-le-zero}
-use native.Mathlib.Decide.{ℕ-discrete}
+use native.Mathlib.Nat.{eq-or-lt-of-le, le-of-suc-le-suc, not-suc-le-zero}
 use native.Mathlib.Omega.{arith}
 use borrow.Author.Tests.{eqb-true, eq-eqb, ne-eqb}
 use lib.Dec.{eqb}
 use lib.ListN.{length, getD, set, length-set}
 use lib.Seq.{getD-set-same, getD-set-other, set-getD, set-set, set-comm}
-use Rattle.progressive.specs.Indexed.{all, shows, writes}
+use Rattle.fields.proofs.All.{all-fails, all-more, all-true}
+use Rattle.progressive.specs.Indexed.{shows, writes}
 
 pub and-left : (a b : Bool) → a && b ≡ true → a ≡ true
 and-left true b e = refl
@@ -22,23 +22,6 @@ and-left false b e = e
 pub and-right : (a b : Bool) → a && b ≡ true → b ≡ true
 and-right true b e = e
 and-right false b e = let z : _≡_ {A = Bool} true false = sym e in cc
-
--- an index below n + 1 is below n or is n
-pub below-or-last : (i n : ℕ) → i < suc n → (i < n) ⊎ (i ≡ n)
-below-or-last i n h = go (ℕ-discrete i n)
-  where
-    go : Dec (i ≡ n) → (i < n) ⊎ (i ≡ n)
-    go (yes q) = inr q
-    go (no q) = inl (omega arith)
-
-pub all-at : (p : ℕ → Bool) (n i : ℕ) → all p n ≡ true → i < n → p i ≡ true
-all-at p zero i e h = absurd (not-suc-le-zero h)
-all-at p (suc n) i e h =
-    ⊎-elim (λ b. all-at p n i (and-left (all p n) (p n) e) b) (λ q. ap p q ∙ and-right (all p n) (p n) e) (below-or-last i n h)
-
-pub all-true : (p : ℕ → Bool) (n : ℕ) → ((i : ℕ) → i < n → p i ≡ true) → all p n ≡ true
-all-true p zero h = refl
-all-true p (suc n) h = rw (all-true p n (λ i l. h i (omega arith)), h n (omega arith))
 
 -- no two of the first n indices are the same
 abbrev pub Distinct : (ℕ → ℕ) → ℕ → Type 0
@@ -64,14 +47,14 @@ pub getD-writes : (ix val : ℕ → ℕ) (l : List ℕ) (n i : ℕ) → Distinct
 getD-writes ix val l zero i d b inside = absurd (not-suc-le-zero b)
 getD-writes ix val l (suc n) i d b inside =
     ⊎-elim
-    (λ c.
-    getD-set-other (writes ix val l n) (ix n) (ix i) (val n) 0 (λ e. d i n c (omega arith) (sym e))
-    ∙ getD-writes ix val l n i (λ a b x y. d a b x (omega arith)) c inside)
     (λ q.
     let kept : length (writes ix val l n) ≡ length l = length-writes ix val l n in
     let last : ix n < length l = rw q at inside in
     rw q (getD-set-same (writes ix val l n) (ix n) (val n) 0 (omega arith)))
-    (below-or-last i n b)
+    (λ c.
+    getD-set-other (writes ix val l n) (ix n) (ix i) (val n) 0 (λ e. d i n c (omega arith) (sym e))
+    ∙ getD-writes ix val l n i (λ a b x y. d a b x (omega arith)) c inside)
+    (eq-or-lt-of-le (le-of-suc-le-suc b))
 
 pub shows-writes : (ix val : ℕ → ℕ) (l : List ℕ) (n : ℕ) → Distinct ix n → ((i : ℕ) → i < n → ix i < length l) → shows ix val (writes ix val l n) n ≡ true
 shows-writes ix val l n d inside =
@@ -92,23 +75,7 @@ writes-back ix old new l (suc n) d e =
     let earlier : writes ix old (writes ix new l n) n ≡ l = writes-back ix old new l n (λ a b x y. d a b x (omega arith)) (and-left (shows ix old l n) (eqb (getD l (ix n) 0) (old n)) e) in
     rw (writes-set ix old (writes ix new l n) n (ix n) (new n) (λ i b. d i n b (omega arith)), earlier, set-set, ← shown) (set-getD l (ix n) 0)
 
--- ---- a loop that tests, and a loop that writes: one more turn, at the code's i + 1; a failed test; the end
-
-pub all-more : (p : ℕ → Bool) (i : ℕ) → all p i ≡ true → p i ≡ true → all p (i + 1) ≡ true
-all-more p i e h = rw (add-one i, e, h)
-
-pub all-fails : (p : ℕ → Bool) (n i : ℕ) → i < n → p i ≡ false → all p n ≡ false
-all-fails p zero i b h = absurd (not-suc-le-zero b)
-all-fails p (suc n) i b h =
-    ⊎-elim (λ c. rw (all-fails p n i c h)) (λ q. rw (← q, h) (both-false (all p i))) (below-or-last i n b)
-  where
-    both-false : (a : Bool) → a && false ≡ false
-    both-false true = refl
-    both-false false = refl
-
--- the loop's counter at its end
-pub all-done : (p : ℕ → Bool) (n i : ℕ) → i ≤ n → n ≤ i → all p i ≡ true → all p n ≡ true
-all-done p n i a b e = let q : i ≡ n = omega arith in rw q at e
+-- ---- a loop that writes: one more turn, at the code's i + 1; the end
 
 -- a loop that writes keeps this of the table, where l is the table it began with and i the turns done
 pub record Written (ix val : ℕ → ℕ) (l cur : List ℕ) (i : ℕ) : Type 0 where

@@ -6,6 +6,7 @@ use Prim.Native.Nat.{ℕ, _+_, _-_, _*_}
 use native.Mathlib.Omega.{arith}
 use borrow.Author.Tests.{eq-eqb, ne-eqb, not-false}
 use lib.ListN.{length}
+use Rattle.fields.specs.All.{all}
 use Rattle.fields.specs.Numbers.{noRoom, noStep, notAllowed}
 use Rattle.fields.specs.Judged.{Judged, done, refused, refusedIf}
 use Rattle.fields.proofs.Judging.{passed, refusal-before, told}
@@ -14,7 +15,7 @@ use Rattle.progressive.specs.declared.counts.Counts.{Counts}
 use Rattle.progressive.specs.declared.counts.Stepped.{Stepped}
 use Rattle.progressive.specs.declared.levels.Place.{Place}
 use Rattle.progressive.specs.declared.refine.Verdict as verdict
-use Rattle.progressive.specs.Indexed.{all, always, from, writes}
+use Rattle.progressive.specs.Indexed.{always, from, writes}
 use Rattle.progressive.specs.StepTable.{coordinate, moveCount, newFaceCount, stepCount}
 use Rattle.progressive.specs.Mesh.{Mesh, fits, meshOf}
 use Rattle.progressive.specs.Rules.{allowedOn, moveNumbers, numbersAllowed}

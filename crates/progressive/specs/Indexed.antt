@@ -1,14 +1,10 @@
--- A test of every index below a count, and stores at indices that a function gives.
-use mathlib.Core.Bool.{Bool, true, _&&_}
+-- Stores at indices that a function gives, and a test of what stands there.
+use mathlib.Core.Bool.{Bool}
 use mathlib.Core.List.{List}
 use Prim.Native.Nat.{ℕ, zero, suc, _+_}
 use lib.Dec.{eqb}
 use lib.ListN.{getD, set}
-
--- `p` holds at every index below n
-abbrev pub all : (ℕ → Bool) → ℕ → Bool
-all p zero = true
-all p (suc n) = all p n && p n
+use Rattle.fields.specs.All.{all}
 
 -- `l` after the stores of `val i` at `ix i`, for i = 0, 1, .. below n
 abbrev pub writes : (ℕ → ℕ) → (ℕ → ℕ) → List ℕ → ℕ → List ℕ

@@ -3,6 +3,7 @@ use mathlib.Core.Bool.{true}
 use mathlib.Core.Path.{_≡_}
 use mathlib.Core.List.{List}
 use Prim.Native.Nat.{ℕ, _+_, _-_, _*_, _≤_}
+use Rattle.fields.specs.All.{all}
 use Rattle.fields.specs.Limits.{largestCount}
 use Rattle.fields.specs.Judged.{Judged, done, refused, onDone}
 use Rattle.mesh.specs.Corners.{faceWords}
@@ -12,7 +13,6 @@ use Rattle.progressive.specs.declared.levels.Place.{Place}
 use Rattle.progressive.specs.declared.levels.Walked.{Walked}
 use Rattle.progressive.specs.declared.levels.Located as located
 use Rattle.progressive.specs.declared.refine.Verdict as verdict
-use Rattle.progressive.specs.Indexed.{all}
 use Rattle.progressive.specs.StepTable.{moveCount, newFaceCount, facesBefore, stepFormed, stepOffset}
 use Rattle.progressive.specs.Rules.{moveNumbers}
 use Rattle.progressive.specs.Mesh.{Mesh}

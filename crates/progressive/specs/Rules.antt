@@ -6,9 +6,10 @@ use mathlib.Core.List.{List}
 use Prim.Native.Nat.{ℕ, _+_, _*_}
 use lib.Dec.{eqb, ltb}
 use lib.ListN.{getD}
+use Rattle.fields.specs.All.{all}
 use Rattle.fields.specs.Judged.{pick}
 use Rattle.mesh.specs.Corners.{cornerFields, faceWords}
-use Rattle.progressive.specs.Indexed.{all, shows, always}
+use Rattle.progressive.specs.Indexed.{shows, always}
 use Rattle.progressive.specs.StepTable.{splitOf, moveCount, newFaceCount, moveFace, moveCorner, newFaceAt}
 use Rattle.progressive.specs.Mesh.{Mesh}
 

@@ -5,8 +5,8 @@ use mathlib.Core.List.{List}
 use Prim.Native.Nat.{ℕ, zero, suc, _+_, _*_}
 use lib.Dec.{eqb, leb}
 use lib.ListN.{length, getD}
+use Rattle.fields.specs.All.{all}
 use Rattle.fields.specs.Limits.{largestCount, mostSteps, mostMoves, mostNewFaces}
-use Rattle.progressive.specs.Indexed.{all}
 
 -- the words before the first step; those of a step before its moves; those of a move, and of a new face
 abbrev pub headWords : ℕ

@@ -7,8 +7,8 @@ ghost use mathlib.Core.Bool.{_&&_};
 ghost use Prim.Native.Nat.{_^_, _<_, _≤_};
 ghost use lib.ListN.{length};
 ghost use lib.Dec.{eqb};
+ghost use Rattle.fields.specs.All.{all};
 ghost use Rattle.fields.specs.Limits.{mostMoves};
-ghost use Rattle.progressive.specs.Indexed.{all};
 ghost use Rattle.progressive.specs.StepTable.{cornerFormed, headWords, moveCorner, moveFace, nextStep, stepFormed, stepFormedAt, stepOffset, wellFormed};
 
 // The limits, as sizes.

@@ -11,8 +11,8 @@ ghost use mathlib.Core.Path.{_≡_};
 ghost use mathlib.Core.Bool.{true};
 ghost use Prim.Native.Nat.{_+_, _≤_};
 ghost use lib.ListN.{length};
+ghost use Rattle.fields.specs.All.{all};
 ghost use Rattle.fields.specs.Limits.{mostMoves};
-ghost use Rattle.progressive.specs.Indexed.{all};
 ghost use Rattle.progressive.specs.StepTable.{newFaceAt, newFaceWords, stepFormed};
 ghost use Rattle.progressive.specs.Rules.{moveNumbers, newFaceAllowed, newFaceNumbers, numbersAllowed, otherCorner, otherPosition, splitAndOther, splitTriangle};
 

@@ -12,12 +12,13 @@ use lib.Seq.{getD-append-add}
 use Rattle.fields.specs.Limits.{largestCount, mostMoves, mostNewFaces, mostSteps}
 use Rattle.fields.specs.Numbers.{badSteps}
 use Rattle.fields.specs.Judged.{done, onDone, pick}
+use Rattle.fields.proofs.All.{all-true}
 use Rattle.fields.proofs.Judging.{passed, same-done, value-before}
 use Rattle.climb.specs.Digits.{isDecimal, valueOf}
 use Rattle.climb.specs.Lines.{Form, Row, Rule, decimal, fieldOf, fieldsAfter, has, past, pattern, rowFrom, startsWith, tab, until, lineFeed}
 use Rattle.climb.specs.Climb.{Taken, climbOf, endForm, faceForm, headForm, isEmpty, moveForm, rowsFrom, splitForm, stepFrom, stepsFrom}
 use Rattle.progressive.specs.StepTable.{cornerFormed, headWords, moveWords, newFaceWords, nextStep, stepFormed, stepFormedAt, stepOffset, stepWords, wellFormed}
-use Rattle.progressive.proofs.Indexed.{all-true, and-left, and-right}
+use Rattle.progressive.proofs.Indexed.{and-left, and-right}
 
 -- ---- the numbers of a line
 

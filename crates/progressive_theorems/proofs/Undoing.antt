@@ -7,14 +7,16 @@ use Prim.Native.Nat.{ℕ, _+_, _*_, _<_, _≤_}
 use native.Mathlib.Omega.{arith}
 use borrow.Author.Tests.{eq-eqb}
 use lib.ListN.{length, getD}
+use Rattle.fields.specs.All.{all}
+use Rattle.fields.proofs.All.{all-true}
 use Rattle.mesh.specs.Corners.{faceWords}
 use Rattle.mesh.specs.Base.{positionWords}
-use Rattle.progressive.specs.Indexed.{all, always, from, shows, writes}
+use Rattle.progressive.specs.Indexed.{always, from, shows, writes}
 use Rattle.progressive.specs.StepTable.{coordinate, moveCount, newFaceCount, splitOf, stepFormed}
 use Rattle.progressive.specs.Mesh.{Mesh, roomFor}
 use Rattle.progressive.specs.Rules.{allowed, allowedOn, cornerIndex, moveNumbers, numbersAllowed}
 use Rattle.progressive.specs.Laying.{clearAfter, laid, laidFaces, laidPositions, newFaceNumber, roomClear, showsLaid, showsStep, undone, undoneFaces, undonePositions}
-use Rattle.progressive.proofs.Indexed.{Apart, Distinct, all-true, and-left, and-right, getD-apart, getD-writes, length-writes, shows-writes, writes-back}
+use Rattle.progressive.proofs.Indexed.{Apart, Distinct, and-left, and-right, getD-apart, getD-writes, length-writes, shows-writes, writes-back}
 use Rattle.progressive.proofs.Rooms.{fitting}
 use Rattle.progressive.proofs.Corners.{corner-below, corners-distinct}
 

@@ -1,5 +1,6 @@
 -- The invariant: the new faces so far are allowed.
-use Rattle.progressive.specs.Indexed.{all}
+use Rattle.fields.specs.All.{all}
+use Rattle.fields.proofs.All.{all-done, all-fails, all-more}
 use Rattle.progressive.specs.Rules.{newFaceNumbers}
 use Rattle.progressive.proofs.Allowing.{new-face-test}
 use mathlib.Core.Path.{_≡_, sym, _∙_}
@@ -7,7 +8,6 @@ use mathlib.Core.Bool.{true}
 use Prim.Native.Nat.{_≤_, _-_}
 use denote.Ref.{now}
 use borrow.Author.Tests.{not-true, not-false}
-use Rattle.progressive.proofs.Indexed.{all-done, all-fails, all-more}
 use borrow.Author.Needs.{needs}
 use Rattle.progressive.proofs.rules.new_faces_allowed.Statement.{statement}
 use Rattle.progressive.proofs.rules.new_faces_allowed.Tie as tie
