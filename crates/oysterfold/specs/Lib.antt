@@ -1,3 +1,5 @@
 pub mod Result
 pub mod Mesh
 pub mod Steps
+pub mod CoderState
+pub mod Fresh
