@@ -3,3 +3,4 @@ pub mod Words
 pub mod Results
 pub mod Answers
 pub mod Stepping
+pub mod Writes

@@ -3,10 +3,14 @@ use Prim.Native.Nat.{ℕ}
 use mathlib.Core.Bool.{Bool, true, false}
 use mathlib.Core.List.{List, [], _∷_}
 use lib.Dec.{eqb, ltb}
-use lib.ListN.{getD}
+use lib.ListN.{getD, length}
 use Rattle.fields.specs.Judged.{pick}
 use Rattle.coder.specs.declared.interval.Coder.{Coder}
 use Rattle.coder.specs.declared.write.Writer.{Writer}
+
+-- an array of fewer than n words
+abbrev pub shorter : ℕ → List ℕ → Bool
+shorter n array = ltb (length array) n
 
 abbrev pub coderLength : ℕ
 coderLength = 4

@@ -3,3 +3,4 @@ pub mod Mesh
 pub mod Steps
 pub mod CoderState
 pub mod Fresh
+pub mod Writing

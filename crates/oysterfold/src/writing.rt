@@ -1,12 +1,18 @@
 // Writing coded numbers.
 use crate::coder_state::WRITER_WORDS;
 use crate::coder_state::put_writer;
+use crate::coder_state::writer_in;
 use coder::write::Writer;
+use coder::write::Written;
 use fields::numbers::NO_ROOM;
 ghost use mathlib.Core.Path.{_≡_};
-ghost use Rattle.coder.specs.Writing.{freshWriter};
-ghost use Rattle.oysterfold.specs.CoderState.{writerWords};
+ghost use mathlib.Core.List.{List};
+ghost use Prim.Native.Nat.{ℕ, _≤_};
+ghost use lib.ListN.{length};
+ghost use Rattle.coder.specs.Writing.{freshWriter, writeStatic, writtenGiven};
+ghost use Rattle.oysterfold.specs.CoderState.{shorter, writerIn, writerLength, writerWords};
 ghost use Rattle.oysterfold.specs.Fresh.{stored, storedInto};
+ghost use Rattle.oysterfold.specs.Writing.{handed, handedBy, writtenInto};
 
 // A fresh writer's state.
 #[no_mangle]
@@ -18,4 +24,35 @@ pub extern "C" fn oysterfold_writer_fresh(state: &mut [u64]) -> u32
     }
     put_writer(state, Writer::fresh());
     0
+}
+
+// The number of an answer; where it is 0 the state after it is stored.
+fn answer(written: Written, state: &mut [u64]) -> u32
+    requires { ⌜ writerLength ≤ length (now state) ⌝ }
+    ensures { λ r. ⌜ ((bytes : List ℕ) → handed r (now (state .exit)) bytes ≡ handedBy (writtenGiven written bytes) (now (state .entry))) ⌝ }
+{
+    match written {
+        Written::Refused(number, _) => number,
+        Written::Done(after) => {
+            put_writer(state, after);
+            0
+        }
+    }
+}
+
+// Writes a value in a static range.
+#[no_mangle]
+pub extern "C" fn oysterfold_write_static(
+    state: &mut [u64],
+    buffer: &mut [u8],
+    range: u32,
+    value: u32,
+) -> u32
+    ensures { λ r. ⌜ handed r (now (state .exit)) (now (buffer .exit)) ≡ writtenInto (shorter writerLength (now (state .entry))) (writeStatic range (now (buffer .entry)) (writerIn (now (state .entry))) value) (now (state .entry)) (now (buffer .entry)) ⌝ }
+{
+    if state.len() < WRITER_WORDS {
+        return NO_ROOM;
+    }
+    let written = writer_in(state).write_static(buffer, range, value);
+    answer(written, state)
 }
