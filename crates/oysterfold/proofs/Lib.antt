@@ -3,4 +3,5 @@ pub mod Words
 pub mod Results
 pub mod Answers
 pub mod Stepping
-pub mod Writes
+pub mod WriteAnswers
+pub mod ReadAnswers

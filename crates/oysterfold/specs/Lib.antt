@@ -4,3 +4,4 @@ pub mod Steps
 pub mod CoderState
 pub mod Fresh
 pub mod Writing
+pub mod Reading

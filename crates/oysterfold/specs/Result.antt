@@ -26,3 +26,7 @@ answerIn result answer = refusedIf (ltb (length result) resultWords) noRoom 0 an
 -- and stays as it was
 unfoldable pub resultOf : Judged ℕ → List ℕ → List ℕ
 resultOf answer result = pick (ltb (length result) resultWords) result (sets result 0 (wordsOf answer))
+
+-- a value told, at place 0; with 0 for it, a refusal that has no place
+abbrev pub valueTold : ℕ → List ℕ → List ℕ
+valueTold value result = sets result 0 (0 ∷ value ∷ [])

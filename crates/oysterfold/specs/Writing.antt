@@ -1,7 +1,7 @@
 -- What the exported writers hand back: 01's number, and what the caller's state array and buffer then hold.
 use Prim.Native.Nat.{ℕ}
 use mathlib.Core.Bool.{Bool}
-use mathlib.Core.List.{List, [], _∷_}
+use mathlib.Core.List.{List}
 use lib.Seq.{sets}
 use Rattle.fields.specs.Numbers.{noRoom}
 use Rattle.fields.specs.Judged.{pick}

@@ -1,12 +1,23 @@
 // Reading coded numbers.
 use crate::coder_state::CODER_WORDS;
+use crate::coder_state::coder_in;
 use crate::coder_state::put_coder;
+use crate::result::RESULT_WORDS;
+use crate::result::told;
+use crate::result::unplaced;
 use coder::interval::Coder;
+use coder::read::Read;
 use fields::numbers::NO_ROOM;
 ghost use mathlib.Core.Path.{_≡_};
+ghost use mathlib.Core.Bool.{true};
+ghost use Prim.Native.Nat.{_≤_};
+ghost use lib.ListN.{length};
 ghost use Rattle.coder.specs.Interval.{fresh};
-ghost use Rattle.oysterfold.specs.CoderState.{coderWords};
+ghost use Rattle.coder.specs.Reading.{readGiven, takeStatic};
+ghost use Rattle.oysterfold.specs.CoderState.{coderIn, coderLength, coderWords, shorter};
 ghost use Rattle.oysterfold.specs.Fresh.{stored, storedInto};
+ghost use Rattle.oysterfold.specs.Reading.{handed, handedBy, readInto};
+ghost use Rattle.oysterfold.specs.Result.{resultWords};
 
 // A fresh reader's state.
 #[no_mangle]
@@ -18,4 +29,38 @@ pub extern "C" fn oysterfold_reader_fresh(state: &mut [u64]) -> u32
     }
     put_coder(state, Coder::fresh());
     0
+}
+
+// The number of an answer, its value told; where the number is 0 the state after it is stored.
+fn answer(read: Read, state: &mut [u64], result: &mut [u64]) -> u32
+    requires { ⌜ (coderLength ≤ length (now state)) × (resultWords ≤ length (now result)) ⌝ }
+    ensures { λ r. ⌜ handed r (now (state .exit)) (now (result .exit)) ≡ handedBy (readGiven read) (now (state .entry)) (now (result .entry)) ⌝ }
+{
+    match read {
+        Read::Refused(number, _) => unplaced(result, number),
+        Read::Got(value, after) => {
+            put_coder(state, after);
+            told(result, value as u64)
+        }
+    }
+}
+
+// Reads a value in a static range; result: place, value.
+#[no_mangle]
+pub extern "C" fn oysterfold_read_static(
+    state: &mut [u64],
+    coded: &[u8],
+    range: u32,
+    result: &mut [u64],
+) -> u32
+    ensures { λ r. ⌜ handed r (now (state .exit)) (now (result .exit)) ≡ readInto (shorter coderLength (now (state .entry))) (takeStatic true range (now (coded .entry)) (coderIn (now (state .entry)))) (now (state .entry)) (now (result .entry)) ⌝ }
+{
+    if result.len() < RESULT_WORDS {
+        return NO_ROOM;
+    }
+    if state.len() < CODER_WORDS {
+        return unplaced(result, NO_ROOM);
+    }
+    let read = coder_in(state).read_static(coded, range);
+    answer(read, state, result)
 }

@@ -3,7 +3,7 @@ use borrow.Author.Tests.{le-ltb, lt-ltb}
 use denote.Ref.{now}
 use Rattle.coder.specs.Writing.{writeStatic}
 use Rattle.oysterfold.specs.CoderState.{writerIn}
-use Rattle.oysterfold.proofs.Writes.{write-short, write-told}
+use Rattle.oysterfold.proofs.WriteAnswers.{write-short, write-told}
 use borrow.Author.Needs.{needs}
 use Rattle.oysterfold.proofs.writing.oysterfold_write_static.Statement.{statement}
 use Rattle.oysterfold.proofs.writing.oysterfold_write_static.Tie as tie
