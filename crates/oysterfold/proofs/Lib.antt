@@ -5,3 +5,4 @@ pub mod Answers
 pub mod Stepping
 pub mod WriteAnswers
 pub mod ReadAnswers
+pub mod Widths

@@ -1,6 +1,6 @@
 -- The coder's states as a caller holds them: low, high, pending, settled, and for a writer a fifth word, its compressed flag.
 use Prim.Native.Nat.{ℕ}
-use mathlib.Core.Bool.{Bool, true, false}
+use mathlib.Core.Bool.{Bool, true, false, _||_}
 use mathlib.Core.List.{List, [], _∷_}
 use lib.Dec.{eqb, ltb}
 use lib.ListN.{getD, length}
@@ -55,3 +55,7 @@ coderWords s = s .low ∷ s .high ∷ s .pending ∷ s .settled ∷ []
 
 abbrev pub writerWords : Writer → List ℕ
 writerWords w = w .coder .low ∷ w .coder .high ∷ w .coder .pending ∷ w .coder .settled ∷ flagOf (w .compressed) ∷ []
+
+-- the bytes of a plain value
+abbrev pub isWidth : ℕ → Bool
+isWidth bytes = eqb bytes 1 || (eqb bytes 2 || eqb bytes 4)

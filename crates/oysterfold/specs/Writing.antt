@@ -1,12 +1,14 @@
 -- What the exported writers hand back: 01's number, and what the caller's state array and buffer then hold.
-use Prim.Native.Nat.{ℕ}
-use mathlib.Core.Bool.{Bool}
+use Prim.Native.Nat.{ℕ, _^_}
+use mathlib.Core.Bool.{Bool, _&&_}
 use mathlib.Core.List.{List}
+use lib.Dec.{ltb}
 use lib.Seq.{sets}
 use Rattle.fields.specs.Numbers.{noRoom}
 use Rattle.fields.specs.Judged.{pick}
-use Rattle.coder.specs.Writing.{Write}
-use Rattle.oysterfold.specs.CoderState.{writerWords}
+use Rattle.coder.specs.Writing.{Write, writePlain, writeStatic}
+use Rattle.coder.specs.declared.write.Writer.{Writer}
+use Rattle.oysterfold.specs.CoderState.{isWidth, writerWords}
 
 pub record Handed : Type 0 where
   pub number : ℕ
@@ -23,3 +25,11 @@ handedBy w state = handed (w .number) (pick (w .done) (sets state 0 (writerWords
 -- a write, for a caller who may have lent an array that is too short: 12 before all else
 unfoldable pub writtenInto : Bool → Write → List ℕ → List ℕ → Handed
 writtenInto tooShort w state buffer = pick tooShort (handed noRoom state buffer) (handedBy w state)
+
+-- "`bytes` 1, 2 or 4, and a value below 256^bytes"
+abbrev pub plainFits : ℕ → ℕ → Bool
+plainFits bytes value = isWidth bytes && ltb value (256 ^ bytes)
+
+-- a plain value; one that does not fit is 10, where the coder judges it: as a value in an empty range
+unfoldable pub writeBytes : ℕ → List ℕ → Writer → ℕ → Write
+writeBytes bytes buffer w value = pick (plainFits bytes value) (writePlain bytes buffer w value) (writeStatic 0 buffer w value)

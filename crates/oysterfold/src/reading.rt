@@ -7,6 +7,7 @@ use crate::result::told;
 use crate::result::unplaced;
 use coder::interval::Coder;
 use coder::read::Read;
+use coder::read::Width;
 use fields::numbers::NO_ROOM;
 ghost use mathlib.Core.Path.{_≡_};
 ghost use mathlib.Core.Bool.{true};
@@ -16,7 +17,7 @@ ghost use Rattle.coder.specs.Interval.{fresh};
 ghost use Rattle.coder.specs.Reading.{readGiven, takeStatic};
 ghost use Rattle.oysterfold.specs.CoderState.{coderIn, coderLength, coderWords, shorter};
 ghost use Rattle.oysterfold.specs.Fresh.{stored, storedInto};
-ghost use Rattle.oysterfold.specs.Reading.{handed, handedBy, readInto};
+ghost use Rattle.oysterfold.specs.Reading.{handed, handedBy, readInto, takeBytes};
 ghost use Rattle.oysterfold.specs.Result.{resultWords};
 
 // A fresh reader's state.
@@ -62,5 +63,37 @@ pub extern "C" fn oysterfold_read_static(
         return unplaced(result, NO_ROOM);
     }
     let read = coder_in(state).read_static(coded, range);
+    answer(read, state, result)
+}
+
+// A plain value whose bytes are no width is refused as a value in an empty range is.
+fn read_plain(s: Coder, coded: &[u8], bytes: u32) -> Read
+    ensures { λ r. ⌜ readGiven r ≡ takeBytes bytes (now (coded .entry)) s ⌝ }
+{
+    match bytes {
+        1 => s.read_plain(coded, Width::U8),
+        2 => s.read_plain(coded, Width::U16),
+        4 => s.read_plain(coded, Width::U32),
+        _ => s.read_static(coded, 0),
+    }
+}
+
+// Reads a plain value of 1, 2 or 4 bytes; result: place, value.
+#[no_mangle]
+pub extern "C" fn oysterfold_read_plain(
+    state: &mut [u64],
+    coded: &[u8],
+    bytes: u32,
+    result: &mut [u64],
+) -> u32
+    ensures { λ r. ⌜ handed r (now (state .exit)) (now (result .exit)) ≡ readInto (shorter coderLength (now (state .entry))) (takeBytes bytes (now (coded .entry)) (coderIn (now (state .entry)))) (now (state .entry)) (now (result .entry)) ⌝ }
+{
+    if result.len() < RESULT_WORDS {
+        return NO_ROOM;
+    }
+    if state.len() < CODER_WORDS {
+        return unplaced(result, NO_ROOM);
+    }
+    let read = read_plain(coder_in(state), coded, bytes);
     answer(read, state, result)
 }

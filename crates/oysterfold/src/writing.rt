@@ -12,7 +12,7 @@ ghost use lib.ListN.{length};
 ghost use Rattle.coder.specs.Writing.{freshWriter, writeStatic, writtenGiven};
 ghost use Rattle.oysterfold.specs.CoderState.{shorter, writerIn, writerLength, writerWords};
 ghost use Rattle.oysterfold.specs.Fresh.{stored, storedInto};
-ghost use Rattle.oysterfold.specs.Writing.{handed, handedBy, writtenInto};
+ghost use Rattle.oysterfold.specs.Writing.{handed, handedBy, plainFits, writeBytes, writtenInto};
 
 // A fresh writer's state.
 #[no_mangle]
@@ -54,5 +54,48 @@ pub extern "C" fn oysterfold_write_static(
         return NO_ROOM;
     }
     let written = writer_in(state).write_static(buffer, range, value);
+    answer(written, state)
+}
+
+// Whether a plain value has a width, and fits it.
+fn plain_fits(bytes: u32, value: u32) -> bool
+    ensures { λ r. ⌜ r ≡ plainFits bytes value ⌝ }
+{
+    match bytes {
+        1 => value < 0x100,
+        2 => value < 0x10000,
+        4 => true,
+        _ => false,
+    }
+}
+
+// A plain value that does not fit is refused as a value in an empty range is.
+fn written_plain(w: Writer, buffer: &mut [u8], bytes: u32, value: u32) -> Written
+    ensures { λ r. ⌜ writtenGiven r (now (buffer .exit)) ≡ writeBytes bytes (now (buffer .entry)) w value ⌝ }
+{
+    if !plain_fits(bytes, value) {
+        return w.write_static(buffer, 0, value);
+    }
+    match bytes {
+        1 => w.write_u8(buffer, value as u8),
+        2 => w.write_u16(buffer, value as u16),
+        _ => w.write_u32(buffer, value),
+    }
+}
+
+// Writes a plain value of 1, 2 or 4 bytes.
+#[no_mangle]
+pub extern "C" fn oysterfold_write_plain(
+    state: &mut [u64],
+    buffer: &mut [u8],
+    bytes: u32,
+    value: u32,
+) -> u32
+    ensures { λ r. ⌜ handed r (now (state .exit)) (now (buffer .exit)) ≡ writtenInto (shorter writerLength (now (state .entry))) (writeBytes bytes (now (buffer .entry)) (writerIn (now (state .entry))) value) (now (state .entry)) (now (buffer .entry)) ⌝ }
+{
+    if state.len() < WRITER_WORDS {
+        return NO_ROOM;
+    }
+    let written = written_plain(writer_in(state), buffer, bytes, value);
     answer(written, state)
 }
