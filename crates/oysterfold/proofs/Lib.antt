@@ -6,3 +6,4 @@ pub mod Stepping
 pub mod WriteAnswers
 pub mod ReadAnswers
 pub mod Widths
+pub mod Contexts

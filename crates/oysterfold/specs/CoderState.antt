@@ -4,7 +4,9 @@ use mathlib.Core.Bool.{Bool, true, false, _||_}
 use mathlib.Core.List.{List, [], _∷_}
 use lib.Dec.{eqb, ltb}
 use lib.ListN.{getD, length}
+use lib.Seq.{sets}
 use Rattle.fields.specs.Judged.{pick}
+use Rattle.coder.specs.Histogram.{symbols}
 use Rattle.coder.specs.declared.interval.Coder.{Coder}
 use Rattle.coder.specs.declared.write.Writer.{Writer}
 
@@ -55,6 +57,14 @@ coderWords s = s .low ∷ s .high ∷ s .pending ∷ s .settled ∷ []
 
 abbrev pub writerWords : Writer → List ℕ
 writerWords w = w .coder .low ∷ w .coder .high ∷ w .coder .pending ∷ w .coder .settled ∷ flagOf (w .compressed) ∷ []
+
+-- a dynamic context needs a state of n words, and a histogram
+abbrev pub contextShort : ℕ → List ℕ → List ℕ → Bool
+contextShort n state histogram = shorter n state || shorter symbols histogram
+
+-- a lent histogram after a call: its first words are the frequencies; a call that was lent too little leaves it
+unfoldable pub histogramInto : Bool → List ℕ → List ℕ → List ℕ
+histogramInto tooShort frequencies histogram = pick tooShort histogram (sets histogram 0 frequencies)
 
 -- the bytes of a plain value
 abbrev pub isWidth : ℕ → Bool

@@ -10,7 +10,7 @@ ghost use Rattle.coder.specs.Histogram.{freshHistogram, symbols};
 ghost use Rattle.oysterfold.specs.Fresh.{stored, storedInto};
 
 // Stores frequencies from the start on.
-pub(crate) fn put_frequencies(histogram: &mut [u32], frequencies: &[u32])
+fn store(histogram: &mut [u32], frequencies: &[u32])
     requires { ⌜ length (now frequencies) ≤ length (now histogram) ⌝ }
     ensures { λ _. ⌜ now (histogram .exit) ≡ sets (now (histogram .entry)) 0 (now (frequencies .entry)) ⌝ }
 {
@@ -21,12 +21,19 @@ pub(crate) fn put_frequencies(histogram: &mut [u32], frequencies: &[u32])
     }
 }
 
+pub(crate) fn put_frequencies(histogram: &mut [u32], frequencies: &[u32; SYMBOLS])
+    requires { ⌜ symbols ≤ length (now histogram) ⌝ }
+    ensures { λ _. ⌜ now (histogram .exit) ≡ sets (now (histogram .entry)) 0 (now (frequencies .entry)) ⌝ }
+{
+    store(histogram, frequencies);
+}
+
 pub(crate) fn frequencies_in(histogram: &[u32]) -> [u32; SYMBOLS]
     requires { ⌜ symbols ≤ length (now histogram) ⌝ }
     ensures { λ r. ⌜ r ≡ take symbols (now (histogram .entry)) ⌝ }
 {
     let mut frequencies = [0u32; SYMBOLS];
-    put_frequencies(&mut frequencies, &histogram[..SYMBOLS]);
+    store(&mut frequencies, &histogram[..SYMBOLS]);
     frequencies
 }
 

@@ -2,20 +2,24 @@
 use crate::coder_state::CODER_WORDS;
 use crate::coder_state::coder_in;
 use crate::coder_state::put_coder;
+use crate::histograms::frequencies_in;
+use crate::histograms::put_frequencies;
 use crate::result::RESULT_WORDS;
 use crate::result::told;
 use crate::result::unplaced;
+use coder::histogram::SYMBOLS;
 use coder::interval::Coder;
 use coder::read::Read;
 use coder::read::Width;
 use fields::numbers::NO_ROOM;
 ghost use mathlib.Core.Path.{_≡_};
-ghost use mathlib.Core.Bool.{true};
+ghost use mathlib.Core.Bool.{_||_, true};
 ghost use Prim.Native.Nat.{_≤_};
-ghost use lib.ListN.{length};
+ghost use lib.ListN.{length, take};
+ghost use Rattle.coder.specs.Histogram.{symbols};
 ghost use Rattle.coder.specs.Interval.{fresh};
-ghost use Rattle.coder.specs.Reading.{readGiven, takeStatic};
-ghost use Rattle.oysterfold.specs.CoderState.{coderIn, coderLength, coderWords, shorter};
+ghost use Rattle.coder.specs.Reading.{readGiven, takeDynamic, takeStatic, takenHistogram};
+ghost use Rattle.oysterfold.specs.CoderState.{coderIn, coderLength, coderWords, contextShort, histogramInto, shorter};
 ghost use Rattle.oysterfold.specs.Fresh.{stored, storedInto};
 ghost use Rattle.oysterfold.specs.Reading.{handed, handedBy, readInto, takeBytes};
 ghost use Rattle.oysterfold.specs.Result.{resultWords};
@@ -95,5 +99,31 @@ pub extern "C" fn oysterfold_read_plain(
         return unplaced(result, NO_ROOM);
     }
     let read = read_plain(coder_in(state), coded, bytes);
+    answer(read, state, result)
+}
+
+// Reads a value in a dynamic context; result: place, value.
+#[no_mangle]
+pub extern "C" fn oysterfold_read_dynamic(
+    state: &mut [u64],
+    coded: &[u8],
+    histogram: &mut [u32],
+    result: &mut [u64],
+) -> u32
+    ensures { λ r. ⌜ handed r (now (state .exit)) (now (result .exit)) ≡ readInto (contextShort coderLength (now (state .entry)) (now (histogram .entry))) (takeDynamic (take symbols (now (histogram .entry))) (now (coded .entry)) (coderIn (now (state .entry)))) (now (state .entry)) (now (result .entry)) ⌝ }
+    ensures { λ r. ⌜ now (histogram .exit) ≡ histogramInto (shorter resultWords (now (result .entry)) || contextShort coderLength (now (state .entry)) (now (histogram .entry))) (takenHistogram (take symbols (now (histogram .entry))) (now (coded .entry)) (coderIn (now (state .entry)))) (now (histogram .entry)) ⌝ }
+{
+    if result.len() < RESULT_WORDS {
+        return NO_ROOM;
+    }
+    if state.len() < CODER_WORDS {
+        return unplaced(result, NO_ROOM);
+    }
+    if histogram.len() < SYMBOLS {
+        return unplaced(result, NO_ROOM);
+    }
+    let mut frequencies = frequencies_in(histogram);
+    let read = coder_in(state).read_dynamic(coded, &mut frequencies);
+    put_frequencies(histogram, &frequencies);
     answer(read, state, result)
 }

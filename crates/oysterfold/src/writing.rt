@@ -2,15 +2,19 @@
 use crate::coder_state::WRITER_WORDS;
 use crate::coder_state::put_writer;
 use crate::coder_state::writer_in;
+use crate::histograms::frequencies_in;
+use crate::histograms::put_frequencies;
+use coder::histogram::SYMBOLS;
 use coder::write::Writer;
 use coder::write::Written;
 use fields::numbers::NO_ROOM;
 ghost use mathlib.Core.Path.{_≡_};
 ghost use mathlib.Core.List.{List};
 ghost use Prim.Native.Nat.{ℕ, _≤_};
-ghost use lib.ListN.{length};
-ghost use Rattle.coder.specs.Writing.{freshWriter, writeStatic, writtenGiven};
-ghost use Rattle.oysterfold.specs.CoderState.{shorter, writerIn, writerLength, writerWords};
+ghost use lib.ListN.{length, take};
+ghost use Rattle.coder.specs.Histogram.{symbols};
+ghost use Rattle.coder.specs.Writing.{freshWriter, writeDynamic, writeStatic, writtenGiven, writtenHistogram};
+ghost use Rattle.oysterfold.specs.CoderState.{contextShort, histogramInto, shorter, writerIn, writerLength, writerWords};
 ghost use Rattle.oysterfold.specs.Fresh.{stored, storedInto};
 ghost use Rattle.oysterfold.specs.Writing.{handed, handedBy, plainFits, writeBytes, writtenInto};
 
@@ -97,5 +101,28 @@ pub extern "C" fn oysterfold_write_plain(
         return NO_ROOM;
     }
     let written = written_plain(writer_in(state), buffer, bytes, value);
+    answer(written, state)
+}
+
+// Writes a value in a dynamic context.
+#[no_mangle]
+pub extern "C" fn oysterfold_write_dynamic(
+    state: &mut [u64],
+    buffer: &mut [u8],
+    histogram: &mut [u32],
+    value: u32,
+) -> u32
+    ensures { λ r. ⌜ handed r (now (state .exit)) (now (buffer .exit)) ≡ writtenInto (contextShort writerLength (now (state .entry)) (now (histogram .entry))) (writeDynamic (take symbols (now (histogram .entry))) (now (buffer .entry)) (writerIn (now (state .entry))) value) (now (state .entry)) (now (buffer .entry)) ⌝ }
+    ensures { λ r. ⌜ now (histogram .exit) ≡ histogramInto (contextShort writerLength (now (state .entry)) (now (histogram .entry))) (writtenHistogram (take symbols (now (histogram .entry))) (now (buffer .entry)) (writerIn (now (state .entry))) value) (now (histogram .entry)) ⌝ }
+{
+    if state.len() < WRITER_WORDS {
+        return NO_ROOM;
+    }
+    if histogram.len() < SYMBOLS {
+        return NO_ROOM;
+    }
+    let mut frequencies = frequencies_in(histogram);
+    let written = writer_in(state).write_dynamic(buffer, &mut frequencies, value);
+    put_frequencies(histogram, &frequencies);
     answer(written, state)
 }

@@ -9,23 +9,23 @@ use borrow.Author.Needs.{needs}
 use Rattle.oysterfold.proofs.histograms.frequencies_in.Statement.{statement}
 use Rattle.oysterfold.proofs.histograms.frequencies_in.Tie as tie
 
-slice-aggregate-put-frequencies : tie.Need-slice-aggregate-put-frequencies
-slice-aggregate-put-frequencies c = search needs
+slice-aggregate-store : tie.Need-slice-aggregate-store
+slice-aggregate-store c = search needs
 
-slice-aggregate-put-frequencies-2 : tie.Need-slice-aggregate-put-frequencies-2
-slice-aggregate-put-frequencies-2 c = sym (length-of-take (now (c .before .before .before .args .histogram)) (c .before .before .before .pre))
+slice-aggregate-store-2 : tie.Need-slice-aggregate-store-2
+slice-aggregate-store-2 c = sym (length-of-take (now (c .before .before .before .args .histogram)) (c .before .before .before .pre))
 
-put-frequencies-requires : tie.Need-put-frequencies-requires
-put-frequencies-requires c κs = omega (arith, length-of-take (now (c .before .before .before .args .histogram)) (c .before .before .before .pre))
+store-requires : tie.Need-store-requires
+store-requires c κs = omega (arith, length-of-take (now (c .before .before .before .args .histogram)) (c .before .before .before .pre))
 
 returns : tie.Need-returns
-returns c = c .before .put-frequencies .ensures ∙ sets-whole _ (take symbols (now (c .before .before .before .before .before .args .histogram))) (sym (length-of-take (now (c .before .before .before .before .before .args .histogram)) (c .before .before .before .before .before .pre)))
+returns c = c .before .store .ensures ∙ sets-whole _ (take symbols (now (c .before .before .before .before .before .args .histogram))) (sym (length-of-take (now (c .before .before .before .before .before .args .histogram)) (c .before .before .before .before .before .pre)))
 
 pub frequencies-in-spec : {M : Type 1} → statement M
 frequencies-in-spec =
     tie.close
     (tie.spec
-    slice-aggregate-put-frequencies
-    slice-aggregate-put-frequencies-2
-    put-frequencies-requires
+    slice-aggregate-store
+    slice-aggregate-store-2
+    store-requires
     returns)

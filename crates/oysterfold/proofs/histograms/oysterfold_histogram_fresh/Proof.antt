@@ -12,9 +12,6 @@ returns c = stored-short freshHistogram (now (c .before .before .args .histogram
 fresh-histogram-requires : tie.Need-fresh-histogram-requires
 fresh-histogram-requires c κs = search needs
 
-slice-aggregate-put-frequencies : tie.Need-slice-aggregate-put-frequencies
-slice-aggregate-put-frequencies c = search needs
-
 put-frequencies-requires : tie.Need-put-frequencies-requires
 put-frequencies-requires c κs = search needs
 
@@ -28,10 +25,4 @@ returns-2 c =
 pub oysterfold-histogram-fresh-spec : {M : Type 1} → statement M
 oysterfold-histogram-fresh-spec =
     tie.close
-    (tie.spec
-    returns
-    fresh-histogram-requires
-    slice-aggregate-put-frequencies
-    put-frequencies-requires
-    same-length
-    returns-2)
+    (tie.spec returns fresh-histogram-requires put-frequencies-requires same-length returns-2)

@@ -7,8 +7,8 @@ use denote.Ref.{now}
 use lib.ListN.{drop, length, length-set}
 use lib.Seq.{sets}
 use Rattle.oysterfold.proofs.Words.{words-more, words-none}
-use Rattle.oysterfold.proofs.histograms.put_frequencies.Statement.{statement}
-use Rattle.oysterfold.proofs.histograms.put_frequencies.Tie as tie
+use Rattle.oysterfold.proofs.histograms.store.Statement.{statement}
+use Rattle.oysterfold.proofs.histograms.store.Tie as tie
 
 abbrev Inv-loop : tie.InvT-loop
 Inv-loop histogram₀ frequencies i₀ histogram i = (i ≤ length frequencies) × (length histogram ≡ length histogram₀) × (sets histogram₀ 0 frequencies ≡ sets histogram i (drop i frequencies))
@@ -50,8 +50,8 @@ returns c =
     let l = c .before .loop in
     sym (l .inv .2 ∙ words-none (l .histogram) (now (c .before .before .args .frequencies)) (l .i) (c .loop-test .left))
 
-pub put-frequencies-spec : {M : Type 1} → statement M
-put-frequencies-spec =
+pub store-spec : {M : Type 1} → statement M
+store-spec =
     tie.close
     (tie.spec
     Inv-loop
