@@ -6,9 +6,10 @@ use lib.Dec.{ltb}
 use lib.Seq.{sets}
 use Rattle.fields.specs.Numbers.{noRoom}
 use Rattle.fields.specs.Judged.{pick}
-use Rattle.coder.specs.Writing.{Write, writePlain, writeStatic}
+use Rattle.coder.specs.Writing.{End, Write, writePlain, writeStatic}
 use Rattle.coder.specs.declared.write.Writer.{Writer}
-use Rattle.oysterfold.specs.CoderState.{isWidth, writerWords}
+use Rattle.oysterfold.specs.CoderState.{isWidth, shorter, writerWords}
+use Rattle.oysterfold.specs.Result.{resultWords, valueTold}
 
 pub record Handed : Type 0 where
   pub number : ℕ
@@ -33,3 +34,11 @@ plainFits bytes value = isWidth bytes && ltb value (256 ^ bytes)
 -- a plain value; one that does not fit is 10, where the coder judges it: as a value in an empty range
 unfoldable pub writeBytes : ℕ → List ℕ → Writer → ℕ → Write
 writeBytes bytes buffer w value = pick (plainFits bytes value) (writePlain bytes buffer w value) (writeStatic 0 buffer w value)
+
+-- the end is a write that also tells the bytes used
+abbrev pub endWrite : End → Write
+endWrite e = record { number = e .number; done = e .done; writer = e .writer; bytes = e .bytes }
+
+-- they are 0 where it is refused; a result that is too short stays as it was
+unfoldable pub usedInto : Bool → End → List ℕ → List ℕ
+usedInto tooShort e result = pick (shorter resultWords result) result (valueTold (pick tooShort 0 (e .used)) result)

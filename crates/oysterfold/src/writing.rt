@@ -4,19 +4,25 @@ use crate::coder_state::put_writer;
 use crate::coder_state::writer_in;
 use crate::histograms::frequencies_in;
 use crate::histograms::put_frequencies;
+use crate::result::RESULT_WORDS;
+use crate::result::told;
+use crate::result::unplaced;
+use coder::ending::Ended;
 use coder::histogram::SYMBOLS;
 use coder::write::Writer;
 use coder::write::Written;
 use fields::numbers::NO_ROOM;
 ghost use mathlib.Core.Path.{_≡_};
+ghost use mathlib.Core.Bool.{_||_};
 ghost use mathlib.Core.List.{List};
 ghost use Prim.Native.Nat.{ℕ, _≤_};
 ghost use lib.ListN.{length, take};
 ghost use Rattle.coder.specs.Histogram.{symbols};
-ghost use Rattle.coder.specs.Writing.{freshWriter, writeDynamic, writeStatic, writtenGiven, writtenHistogram};
+ghost use Rattle.coder.specs.Writing.{end, endedGiven, freshWriter, writeDynamic, writeStatic, writtenGiven, writtenHistogram};
 ghost use Rattle.oysterfold.specs.CoderState.{contextShort, histogramInto, shorter, writerIn, writerLength, writerWords};
 ghost use Rattle.oysterfold.specs.Fresh.{stored, storedInto};
-ghost use Rattle.oysterfold.specs.Writing.{handed, handedBy, plainFits, writeBytes, writtenInto};
+ghost use Rattle.oysterfold.specs.Result.{resultWords, valueTold};
+ghost use Rattle.oysterfold.specs.Writing.{endWrite, handed, handedBy, plainFits, usedInto, writeBytes, writtenInto};
 
 // A fresh writer's state.
 #[no_mangle]
@@ -125,4 +131,38 @@ pub extern "C" fn oysterfold_write_dynamic(
     let written = writer_in(state).write_dynamic(buffer, &mut frequencies, value);
     put_frequencies(histogram, &frequencies);
     answer(written, state)
+}
+
+// The number of an end, its bytes used told; where the number is 0 the state after it is stored.
+fn end_answer(ended: Ended, state: &mut [u64], result: &mut [u64]) -> u32
+    requires { ⌜ (writerLength ≤ length (now state)) × (resultWords ≤ length (now result)) ⌝ }
+    ensures { λ r. ⌜ ((bytes : List ℕ) → (handed r (now (state .exit)) bytes ≡ handedBy (endWrite (endedGiven ended bytes)) (now (state .entry))) × (now (result .exit) ≡ valueTold (endedGiven ended bytes .used) (now (result .entry)))) ⌝ }
+{
+    match ended {
+        Ended::Refused(number, _) => unplaced(result, number),
+        Ended::Done(used, after) => {
+            put_writer(state, after);
+            told(result, used as u64)
+        }
+    }
+}
+
+// Ends a coded run; result: place, bytes used.
+#[no_mangle]
+pub extern "C" fn oysterfold_write_end(
+    state: &mut [u64],
+    buffer: &mut [u8],
+    result: &mut [u64],
+) -> u32
+    ensures { λ r. ⌜ handed r (now (state .exit)) (now (buffer .exit)) ≡ writtenInto (shorter resultWords (now (result .entry)) || shorter writerLength (now (state .entry))) (endWrite (end (now (buffer .entry)) (writerIn (now (state .entry))))) (now (state .entry)) (now (buffer .entry)) ⌝ }
+    ensures { λ r. ⌜ now (result .exit) ≡ usedInto (shorter writerLength (now (state .entry))) (end (now (buffer .entry)) (writerIn (now (state .entry)))) (now (result .entry)) ⌝ }
+{
+    if result.len() < RESULT_WORDS {
+        return NO_ROOM;
+    }
+    if state.len() < WRITER_WORDS {
+        return unplaced(result, NO_ROOM);
+    }
+    let ended = writer_in(state).finish(buffer);
+    end_answer(ended, state, result)
 }
