@@ -153,7 +153,7 @@ NotBad (refused k p) = k ≡ badState → ⊥
 
 not-bad : {A : Type 0} (j : Judged A) → Numbered j → NotBad j
 not-bad (done a) h = tt
-not-bad (refused k p) h e = absurd (omega (arith, h, e))
+not-bad (refused k p) h = λ e. absurd (omega (arith, h, e))
 
 -- Where neither a value nor what follows from it is refused with 18, both together are not.
 not-bad-on : {A B : Type 0} (j : Judged A) (next : A → Judged B) → NotBad j → ((a : A) → j ≡ done a → NotBad (next a)) → NotBad (onDone j next)

@@ -5,3 +5,7 @@ pub mod Answers
 pub mod Stepping
 pub mod Whole
 pub mod Declared
+pub mod WriteAnswers
+pub mod ReadAnswers
+pub mod Widths
+pub mod Contexts

@@ -32,3 +32,7 @@ answerIn result answer = answerFor resultWords result answer
 
 unfoldable pub resultOf : Judged ℕ → List ℕ → List ℕ
 resultOf answer result = resultFor resultWords (wordsOf answer) result
+
+-- a value told, at place 0; with 0 for it, a refusal that has no place
+abbrev pub valueTold : ℕ → List ℕ → List ℕ
+valueTold value result = sets result 0 (0 ∷ value ∷ [])

@@ -5,7 +5,7 @@ ghost use Prim.Native.Nat.{_≤_};
 ghost use lib.ListN.{length};
 ghost use lib.Seq.{sets};
 ghost use Rattle.fields.specs.Judged.{done, refusedBy};
-ghost use Rattle.oysterfold.specs.Result.{numberOf, resultWords, wordsOf};
+ghost use Rattle.oysterfold.specs.Result.{numberOf, resultWords, valueTold, wordsOf};
 
 // Place and value.
 pub(crate) const RESULT_WORDS: usize = 2;
@@ -42,4 +42,12 @@ pub(crate) fn refused(result: &mut [u64], e: Refusal) -> u32
     let words = [e.place as u64, 0];
     put_words(result, &words);
     e.number
+}
+
+// Tells a refusal that has no place.
+pub(crate) fn unplaced(result: &mut [u64], number: u32) -> u32
+    requires { ⌜ resultWords ≤ length (now result) ⌝ }
+    ensures { λ r. ⌜ (r ≡ number) × (now (result .exit) ≡ valueTold 0 (now (result .entry))) ⌝ }
+{
+    refused(result, Refusal { number, place: 0 })
 }
