@@ -1,4 +1,4 @@
--- The coder's states as a caller holds them: low, high, pending, settled, and for a writer a fifth word, its compressed flag.
+-- What a caller lends the coder: state words (low, high, pending, settled, and for a writer a fifth, its compressed flag) and histograms.
 use Prim.Native.Nat.{ℕ}
 use mathlib.Core.Bool.{Bool, true, false, _||_}
 use mathlib.Core.List.{List, [], _∷_}
@@ -44,8 +44,8 @@ abbrev pub writerIn : List ℕ → Writer
 writerIn state =
     let s = coderIn state in
     record {
-      coder = record { low = lowIn (s .low) (getD state 4 0); high = s .high; pending = s .pending; settled = s .settled };
-      compressed = eqb (getD state 4 0) 1;
+      coder = record { low = lowIn (s .low) (getD state coderLength 0); high = s .high; pending = s .pending; settled = s .settled };
+      compressed = eqb (getD state coderLength 0) 1;
     }
 
 abbrev pub flagOf : Bool → ℕ
@@ -62,10 +62,10 @@ writerWords w = w .coder .low ∷ w .coder .high ∷ w .coder .pending ∷ w .co
 abbrev pub contextShort : ℕ → List ℕ → List ℕ → Bool
 contextShort n state histogram = shorter n state || shorter symbols histogram
 
--- a lent histogram after a call: its first words are the frequencies; a call that was lent too little leaves it
+-- a lent histogram after a call: at its start the frequencies, which a refusal leaves; a call that was lent too little leaves all of it
 unfoldable pub histogramInto : Bool → List ℕ → List ℕ → List ℕ
 histogramInto tooShort frequencies histogram = pick tooShort histogram (sets histogram 0 frequencies)
 
--- the bytes of a plain value
+-- the bytes that a plain value may have
 abbrev pub isWidth : ℕ → Bool
 isWidth bytes = eqb bytes 1 || (eqb bytes 2 || eqb bytes 4)

@@ -28,6 +28,6 @@ readInto tooShort t state result =
     pick (shorter resultWords result) (handed noRoom state result)
     (pick tooShort (handed noRoom state (valueTold 0 result)) (handedBy t state result))
 
--- a plain value; `bytes` other than 1, 2, 4 is 10, where the coder judges it: as a value in an empty range
+-- a plain value; "10 for range 0 or `bytes` other than 1, 2, 4 (nothing is read)": both are a value in an empty range
 unfoldable pub takeBytes : ℕ → List ℕ → Coder → Taken
 takeBytes bytes coded s = pick (isWidth bytes) (takePlain true bytes coded s) (takeStatic true 0 coded s)

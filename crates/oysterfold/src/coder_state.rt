@@ -60,7 +60,7 @@ pub(crate) fn writer_in(state: &[u64]) -> Writer
     ensures { λ r. ⌜ r ≡ writerIn (now (state .entry)) ⌝ }
 {
     let s = coder_in(state);
-    let flag = state[4];
+    let flag = state[CODER_WORDS];
     Writer {
         coder: Coder {
             low: low_in(s.low, flag),
@@ -86,5 +86,5 @@ pub(crate) fn put_writer(state: &mut [u64], w: Writer)
 {
     let flag = flag_of(w.compressed);
     put_coder(&mut *state, w.coder);
-    state[4] = flag;
+    state[CODER_WORDS] = flag;
 }
