@@ -1,0 +1,304 @@
+//! What each exported function should do, by the independent program: the same parameters and answers as the library's.
+
+use independent::coder::{fresh_histogram, Histogram, State, Writer};
+use independent::refusal::Refusal;
+use independent::steps::Counts;
+use independent::{blocks, climb, mesh, steps};
+
+const NO_ROOM: u32 = 12;
+/// Words of the results, of a mesh's, and of a declaration's.
+const RESULT: usize = 2;
+const MESH_RESULT: usize = 9;
+const DECLARATION_RESULT: usize = 4;
+const READER_STATE: usize = 4;
+const WRITER_STATE: usize = 5;
+const COUNTS: usize = 2;
+/// A declaration starts with its name's U16 length.
+const NAME_AT: u64 = 2;
+
+/// Place and the one other word, which is 0 in a refusal.
+fn told(given: Result<usize, Refusal>, result: &mut [u64]) -> u32 {
+    let (number, place, word) = match given {
+        Ok(word) => (0, 0, word),
+        Err(refusal) => (refusal.number, refusal.place, 0),
+    };
+    result[..RESULT].copy_from_slice(&[place as u64, word as u64]);
+    number
+}
+
+pub fn walk(file: &[u8], rows: &mut [u32], result: &mut [u64]) -> u32 {
+    if result.len() < RESULT {
+        return NO_ROOM;
+    }
+    told(blocks::walk(file, rows), result)
+}
+
+pub fn listing(file: &[u8], text: &mut [u8], result: &mut [u64]) -> u32 {
+    if result.len() < RESULT {
+        return NO_ROOM;
+    }
+    told(blocks::listing(file, text), result)
+}
+
+pub fn read_climb(text: &[u8], table: &mut [u32], result: &mut [u64]) -> u32 {
+    if result.len() < RESULT {
+        return NO_ROOM;
+    }
+    told(climb::read(text, table), result)
+}
+
+pub fn declaration(data: &[u8], fields: &mut [u32], result: &mut [u64]) -> u32 {
+    if result.len() < DECLARATION_RESULT {
+        return NO_ROOM;
+    }
+    result[..DECLARATION_RESULT].fill(0);
+    let read = match mesh::declaration(data) {
+        Ok(read) => read,
+        Err(refusal) => {
+            result[0] = refusal.place as u64;
+            return refusal.number;
+        }
+    };
+    let Some(room) = fields.get_mut(..read.fields.len()) else {
+        return NO_ROOM;
+    };
+    room.copy_from_slice(&read.fields);
+    result[1] = read.fields.len() as u64;
+    result[2] = NAME_AT;
+    result[3] = read.name.len() as u64;
+    0
+}
+
+pub fn read_mesh(decl: &[u8], cont: &[u8], tables: [&mut [u32]; 6], result: &mut [u64]) -> u32 {
+    if result.len() < MESH_RESULT {
+        return NO_ROOM;
+    }
+    let [faces, positions, normals, diffuse, specular, texture] = tables;
+    let mut tables = mesh::Tables {
+        faces,
+        positions,
+        normals,
+        diffuse,
+        specular,
+        texture,
+    };
+    result[..MESH_RESULT].fill(0);
+    match mesh::read(decl, cont, &mut tables) {
+        Ok(c) => {
+            let counts = [
+                c.faces,
+                c.positions,
+                c.normals,
+                c.diffuse,
+                c.specular,
+                c.texture,
+                c.shadings,
+            ];
+            result[RESULT..MESH_RESULT].copy_from_slice(&counts.map(u64::from));
+            0
+        }
+        Err((part, refusal)) => {
+            result[..RESULT].copy_from_slice(&[refusal.place as u64, u64::from(part)]);
+            refusal.number
+        }
+    }
+}
+
+fn state_in(words: &[u64]) -> State {
+    State {
+        low: words[0],
+        high: words[1],
+        pending: words[2],
+        settled: words[3],
+    }
+}
+
+fn state_out(state: &State, words: &mut [u64]) {
+    words[..READER_STATE].copy_from_slice(&[state.low, state.high, state.pending, state.settled]);
+}
+
+fn writer_in(words: &[u64]) -> Writer {
+    Writer {
+        state: state_in(words),
+        compressed: words[READER_STATE],
+    }
+}
+
+fn writer_out(writer: &Writer, words: &mut [u64]) {
+    state_out(&writer.state, words);
+    words[READER_STATE] = writer.compressed;
+}
+
+pub fn writer_fresh(state: &mut [u64]) -> u32 {
+    if state.len() < WRITER_STATE {
+        return NO_ROOM;
+    }
+    writer_out(&Writer::fresh(), state);
+    0
+}
+
+pub fn reader_fresh(state: &mut [u64]) -> u32 {
+    if state.len() < READER_STATE {
+        return NO_ROOM;
+    }
+    state_out(&State::fresh(), state);
+    0
+}
+
+pub fn histogram_fresh(histogram: &mut [u32]) -> u32 {
+    let fresh = fresh_histogram();
+    let Some(room) = histogram.get_mut(..fresh.len()) else {
+        return NO_ROOM;
+    };
+    room.copy_from_slice(&fresh);
+    0
+}
+
+/// One call of a writer whose state is lent as words, changed only where the call is granted.
+fn with_writer<T>(
+    state: &mut [u64],
+    call: impl FnOnce(&mut Writer) -> Result<T, u32>,
+) -> Result<T, u32> {
+    if state.len() < WRITER_STATE {
+        return Err(NO_ROOM);
+    }
+    let mut writer = writer_in(state);
+    let given = call(&mut writer)?;
+    writer_out(&writer, state);
+    Ok(given)
+}
+
+/// The same for a reader; the value goes to the result.
+fn with_reader(
+    state: &mut [u64],
+    result: &mut [u64],
+    call: impl FnOnce(&mut State) -> Result<u32, u32>,
+) -> u32 {
+    if result.len() < RESULT {
+        return NO_ROOM;
+    }
+    result[..RESULT].fill(0);
+    if state.len() < READER_STATE {
+        return NO_ROOM;
+    }
+    let mut reader = state_in(state);
+    match call(&mut reader) {
+        Ok(value) => {
+            state_out(&reader, state);
+            result[1] = u64::from(value);
+            0
+        }
+        Err(number) => number,
+    }
+}
+
+fn number_of(given: Result<(), u32>) -> u32 {
+    given.err().unwrap_or(0)
+}
+
+/// A call with a histogram that is lent as words, changed only where the call is granted.
+fn with_histogram<T>(
+    words: &mut [u32],
+    call: impl FnOnce(&mut Histogram) -> Result<T, u32>,
+) -> Result<T, u32> {
+    let mut histogram: Histogram = *words.first_chunk().ok_or(NO_ROOM)?;
+    let given = call(&mut histogram)?;
+    words[..histogram.len()].copy_from_slice(&histogram);
+    Ok(given)
+}
+
+pub fn write_static(state: &mut [u64], buffer: &mut [u8], range: u32, value: u32) -> u32 {
+    number_of(with_writer(state, |writer| {
+        writer.write_static(buffer, range, value)
+    }))
+}
+
+pub fn write_dynamic(
+    state: &mut [u64],
+    buffer: &mut [u8],
+    histogram: &mut [u32],
+    value: u32,
+) -> u32 {
+    number_of(with_writer(state, |writer| {
+        with_histogram(histogram, |histogram| {
+            writer.write_dynamic(buffer, histogram, value)
+        })
+    }))
+}
+
+pub fn write_plain(state: &mut [u64], buffer: &mut [u8], bytes: u32, value: u32) -> u32 {
+    number_of(with_writer(state, |writer| {
+        writer.write_plain(buffer, bytes, value)
+    }))
+}
+
+pub fn write_end(state: &mut [u64], buffer: &mut [u8], result: &mut [u64]) -> u32 {
+    if result.len() < RESULT {
+        return NO_ROOM;
+    }
+    result[..RESULT].fill(0);
+    match with_writer(state, |writer| writer.end(buffer)) {
+        Ok(used) => {
+            result[1] = used as u64;
+            0
+        }
+        Err(number) => number,
+    }
+}
+
+pub fn read_static(state: &mut [u64], data: &[u8], range: u32, result: &mut [u64]) -> u32 {
+    with_reader(state, result, |reader| reader.read_static(data, range))
+}
+
+pub fn read_dynamic(
+    state: &mut [u64],
+    data: &[u8],
+    histogram: &mut [u32],
+    result: &mut [u64],
+) -> u32 {
+    with_reader(state, result, |reader| {
+        with_histogram(histogram, |histogram| reader.read_dynamic(data, histogram))
+    })
+}
+
+pub fn read_plain(state: &mut [u64], data: &[u8], bytes: u32, result: &mut [u64]) -> u32 {
+    with_reader(state, result, |reader| reader.read_plain(data, bytes))
+}
+
+/// Up or down, with counts that are lent as words.
+fn with_counts(counts: &mut [u32], call: impl FnOnce(&mut Counts) -> Result<(), u32>) -> u32 {
+    if counts.len() < COUNTS {
+        return NO_ROOM;
+    }
+    let mut present = Counts {
+        positions: counts[0],
+        faces: counts[1],
+    };
+    let number = number_of(call(&mut present));
+    counts[..COUNTS].copy_from_slice(&[present.positions, present.faces]);
+    number
+}
+
+pub fn up(
+    list: &[u32],
+    shadings: u32,
+    faces: &mut [u32],
+    positions: &mut [u32],
+    counts: &mut [u32],
+) -> u32 {
+    with_counts(counts, |present| {
+        steps::up(list, shadings, faces, positions, present)
+    })
+}
+
+pub fn down(
+    list: &[u32],
+    shadings: u32,
+    faces: &mut [u32],
+    positions: &mut [u32],
+    counts: &mut [u32],
+) -> u32 {
+    with_counts(counts, |present| {
+        steps::down(list, shadings, faces, positions, present)
+    })
+}

@@ -1,0 +1,321 @@
+//! Cases that are always the same: lengths and counts at their limits.
+
+use super::blocks::{ListingCall, WalkCall, RESULT_WORDS};
+use super::climb::ClimbCall;
+use super::coder_call::{CoderCall, Operation};
+use super::mesh::{DeclarationCall, MeshCall, DECLARATION_RESULT_WORDS, MESH_RESULT_WORDS};
+use super::states::{READER_WORDS, WRITER_WORDS};
+use super::steps::StepCall;
+use crate::call::{both, Call, Difference, Lent};
+use crate::tally::Tally;
+use independent::coder::{fresh_histogram, State, SYMBOLS};
+use independent::files::blocks::large_file;
+use independent::files::climb::{text_of, Ladder, FACE_NUMBERS, MOST_EACH, POSITION_NUMBERS};
+use independent::files::mesh::{self as files, MeshPlan, RandomPicks, Shading, TABLES, WIDTHS};
+use independent::random::Random;
+
+const LARGEST: usize = 16 * 1024 * 1024;
+const MOST_RECORDS: u32 = 0x1_0000;
+const MOST_STEPS: u32 = 4096;
+/// Numbers of each table past its records.
+const SPARE: usize = 7;
+const FEW: usize = 64;
+/// Bytes of text that suffice where so many words suffice for the rows.
+const TEXT_FOR_WORD: usize = 8;
+
+type Case = (&'static str, fn(&mut Tally) -> Result<(), Difference>);
+
+const CASES: [Case; 9] = [
+    ("files about 16 MiB", long_files),
+    ("declarations about 16 MiB", long_declarations),
+    ("mesh parts about 16 MiB", long_meshes),
+    ("counts about 65,536", counts_at_limit),
+    ("pools of 65,536", full_pools),
+    ("many faces", many_faces),
+    ("coder buffers about 16 MiB", long_buffers),
+    ("climb texts of 4,096 steps", long_climbs),
+    ("steps to 65,536", full_steps),
+];
+
+pub fn run(tally: &mut Tally) -> Result<(), (&'static str, Difference)> {
+    for (name, case) in CASES {
+        case(tally).map_err(|difference| (name, difference))?;
+    }
+    Ok(())
+}
+
+/// The call must give this number.
+fn gives<C: Call>(number: u32, call: &C, tally: &mut Tally) -> Result<C, Difference> {
+    let (given, after) = both(call, tally)?;
+    match given == number {
+        true => Ok(after),
+        false => Err(Difference(format!("both give {given}, not {number}"))),
+    }
+}
+
+fn walk_and_list(
+    number: u32,
+    file: &[u8],
+    room: usize,
+    tally: &mut Tally,
+) -> Result<(), Difference> {
+    let result = Lent::patterned(RESULT_WORDS);
+    let walk = WalkCall {
+        file,
+        rows: Lent::patterned(room),
+        result: result.clone(),
+    };
+    gives(number, &walk, tally)?;
+    let text = Lent::patterned(FEW + TEXT_FOR_WORD * room);
+    gives(0, &ListingCall { file, text, result }, tally).map(drop)
+}
+
+fn long_files(tally: &mut Tally) -> Result<(), Difference> {
+    let mut file = large_file(LARGEST);
+    walk_and_list(0, &file, LARGEST / 2, tally)?;
+    file.resize(LARGEST, 0);
+    walk_and_list(3, &file, 0, tally)?;
+    file.push(0);
+    walk_and_list(9, &file, 0, tally)
+}
+
+fn plan(base: [u32; TABLES], shadings: usize) -> MeshPlan {
+    MeshPlan {
+        name: b"mesh".to_vec(),
+        attributes: 0,
+        declared: base,
+        base,
+        shadings: vec![
+            Shading {
+                attributes: 3,
+                layers: 2
+            };
+            shadings
+        ],
+    }
+}
+
+fn long_declarations(tally: &mut Tally) -> Result<(), Difference> {
+    let mut data = files::declaration(&plan([1; TABLES], 1)).bytes;
+    for (length, number) in [(data.len(), 0), (LARGEST, 17), (LARGEST + 1, 9)] {
+        data.resize(length, 0);
+        let fields = Lent::patterned(FEW);
+        let result = Lent::patterned(DECLARATION_RESULT_WORDS);
+        gives(
+            number,
+            &DeclarationCall {
+                data: &data,
+                fields,
+                result,
+            },
+            tally,
+        )?;
+    }
+    Ok(())
+}
+
+fn tables_for(plan: &MeshPlan) -> [Lent<u32>; TABLES] {
+    std::array::from_fn(|table| Lent::patterned(plan.base[table] as usize * WIDTHS[table] + SPARE))
+}
+
+/// Reads the mesh of a plan, with so many bytes more in each part.
+fn mesh_gives(
+    number: u32,
+    plan: &MeshPlan,
+    more: [usize; 2],
+    tally: &mut Tally,
+) -> Result<(), Difference> {
+    let mut random = Random::of_input(0, 0);
+    let mut picks = RandomPicks {
+        random: &mut random,
+        strays: false,
+    };
+    let mut declaration = files::declaration(plan).bytes;
+    let (continuation, _) = files::continuation(plan, &mut picks);
+    let mut continuation = continuation.bytes;
+    declaration.resize(declaration.len().max(more[0]), 0);
+    continuation.resize(continuation.len().max(more[1]), 0);
+    let call = MeshCall {
+        declaration: &declaration,
+        continuation: &continuation,
+        tables: tables_for(plan),
+        result: Lent::patterned(MESH_RESULT_WORDS),
+    };
+    gives(number, &call, tally).map(drop)
+}
+
+fn long_meshes(tally: &mut Tally) -> Result<(), Difference> {
+    let small = plan([1; TABLES], 1);
+    let over = LARGEST + 1;
+    mesh_gives(0, &small, [0, LARGEST], tally)?;
+    mesh_gives(17, &small, [LARGEST, 0], tally)?;
+    mesh_gives(9, &small, [over, 0], tally)?;
+    mesh_gives(9, &small, [0, over], tally)?;
+    mesh_gives(9, &small, [over, over], tally)
+}
+
+/// A declared count, then a base count, one above the limit; then a base count above a declared one.
+fn counts_at_limit(tally: &mut Tally) -> Result<(), Difference> {
+    for table in 0..TABLES {
+        let mut declared_over = plan([1; TABLES], 1);
+        declared_over.declared[table] = MOST_RECORDS + 1;
+        mesh_gives(9, &declared_over, [0, 0], tally)?;
+        let mut base_over = plan([0; TABLES], 0);
+        base_over.base[table] = MOST_RECORDS + 1;
+        mesh_gives(9, &base_over, [0, 0], tally)?;
+        let mut unlike = plan([1; TABLES], 1);
+        unlike.declared[table] = 0;
+        mesh_gives(11, &unlike, [0, 0], tally)?;
+    }
+    Ok(())
+}
+
+/// Static ranges above 0x3FFE, up to the limit.
+fn full_pools(tally: &mut Tally) -> Result<(), Difference> {
+    for count in [0x3FFE, 0x3FFF, MOST_RECORDS] {
+        let mut base = [count; TABLES];
+        base[files::FACES] = 5;
+        mesh_gives(0, &plan(base, 64), [0, 0], tally)?;
+    }
+    Ok(())
+}
+
+fn many_faces(tally: &mut Tally) -> Result<(), Difference> {
+    let mut few_bytes = plan([MOST_RECORDS, 1, 1, 1, 1, 1], 1);
+    mesh_gives(0, &few_bytes, [0, 0], tally)?;
+    few_bytes.shadings[0].layers = 0;
+    mesh_gives(0, &few_bytes, [0, 0], tally)?;
+    // So many that the shadings' weights are halved now and then.
+    mesh_gives(0, &plan([20_000, 7, 5, 3, 2, 4], 64), [0, 0], tally)
+}
+
+const WRITES: [Operation; 4] = [
+    Operation::WriteStatic { range: 3, value: 1 },
+    Operation::WriteDynamic { value: 7 },
+    Operation::WritePlain { bytes: 4, value: 5 },
+    Operation::WriteEnd,
+];
+const READS: [Operation; 3] = [
+    Operation::ReadStatic { range: 3 },
+    Operation::ReadDynamic,
+    Operation::ReadPlain { bytes: 4 },
+];
+
+/// A call whose state was taken as it is, fresh or with a low that no state has.
+fn coder_call(operation: Operation, words: usize, low: u64, bytes: usize) -> CoderCall {
+    let fresh = State::fresh();
+    let state = [low, fresh.high, fresh.pending, fresh.settled, 0];
+    CoderCall {
+        operation,
+        state: Lent::of(&state[..words]),
+        buffer: Lent::of(&vec![0; bytes]),
+        histogram: Lent::of(&fresh_histogram()),
+        result: Lent::patterned(RESULT_WORDS),
+    }
+}
+
+/// Taken at 16 MiB; above it 9, also where 18 would follow; and 12 first of all where state or histogram is too short.
+fn long_buffer(operation: Operation, words: usize, tally: &mut Tally) -> Result<(), Difference> {
+    let no_low = 0x1_0000_0000;
+    gives(0, &coder_call(operation, words, 0, LARGEST), tally)?;
+    gives(9, &coder_call(operation, words, no_low, LARGEST + 1), tally)?;
+    gives(12, &coder_call(operation, words - 1, 0, LARGEST + 1), tally)?;
+    let mut short = coder_call(operation, words, 0, LARGEST + 1);
+    short.histogram.set_len(SYMBOLS - 1);
+    let dynamic = matches!(
+        operation,
+        Operation::WriteDynamic { .. } | Operation::ReadDynamic
+    );
+    gives(if dynamic { 12 } else { 9 }, &short, tally).map(drop)
+}
+
+fn long_buffers(tally: &mut Tally) -> Result<(), Difference> {
+    for operation in WRITES {
+        long_buffer(operation, WRITER_WORDS, tally)?;
+    }
+    for operation in READS {
+        long_buffer(operation, READER_WORDS, tally)?;
+    }
+    Ok(())
+}
+
+fn climb_gives(number: u32, list: &[u32], tally: &mut Tally) -> Result<(), Difference> {
+    let text = text_of(list).bytes();
+    let table = Lent::patterned(list.len() + SPARE);
+    let result = Lent::patterned(RESULT_WORDS);
+    gives(
+        number,
+        &ClimbCall {
+            text: &text,
+            table,
+            result,
+        },
+        tally,
+    )
+    .map(drop)
+}
+
+/// The steps' limit and one more; and a text above 16 MiB, which has no limit.
+fn long_climbs(tally: &mut Tally) -> Result<(), Difference> {
+    let mut random = Random::of_input(0, 0);
+    for (steps, number) in [(MOST_STEPS, 0), (MOST_STEPS + 1, 13)] {
+        let ladder = Ladder {
+            base_positions: MOST_RECORDS,
+            base_faces: 1,
+            shadings: 1,
+            steps,
+            each: 1,
+        };
+        climb_gives(number, &ladder.climb(&mut random).list, tally)?;
+    }
+    let each = MOST_EACH as u32;
+    let largest = Ladder {
+        base_positions: MOST_RECORDS,
+        base_faces: each,
+        shadings: u32::MAX,
+        steps: MOST_STEPS,
+        each,
+    };
+    let mut list = largest.climb(&mut random).list;
+    let long_numbers = |word: &mut u32| *word = if *word > 2 * each { u32::MAX } else { *word };
+    list[independent::files::climb::LIST_HEAD..]
+        .iter_mut()
+        .for_each(long_numbers);
+    climb_gives(0, &list, tally)
+}
+
+/// Up until the faces pass 65,536, then down again to the base.
+fn full_steps(tally: &mut Tally) -> Result<(), Difference> {
+    let ladder = Ladder {
+        base_positions: MOST_RECORDS - 4,
+        base_faces: MOST_RECORDS - 8,
+        shadings: 2,
+        steps: 6,
+        each: 4,
+    };
+    let climb = ladder.climb(&mut Random::of_input(0, 0));
+    let mut call = StepCall {
+        up: true,
+        list: climb.list,
+        shadings: climb.shadings,
+        faces: Lent::of(&climb.faces),
+        positions: Lent::of(&climb.positions),
+        counts: Lent::of(&[climb.base_positions, climb.base_faces]),
+    };
+    call.faces
+        .set_len((MOST_RECORDS as usize + 8) * FACE_NUMBERS);
+    call.positions
+        .set_len((MOST_RECORDS as usize + 8) * POSITION_NUMBERS);
+    for (up, number) in [
+        (true, 0),
+        (true, 0),
+        (true, 12),
+        (false, 0),
+        (false, 0),
+        (false, 16),
+    ] {
+        call.up = up;
+        call = gives(number, &call, tally)?;
+    }
+    Ok(())
+}
