@@ -1,8 +1,8 @@
 //! One call with all that it is lent, made on both sides and compared.
 
+use crate::report::{difference, Difference, Part};
 use crate::tally::{Function, Tally};
 use sides::{Side, INDEPENDENT, LIBRARY};
-use std::fmt::Write;
 
 /// Words looked at past the end of what is lent.
 const BEYOND: usize = 4;
@@ -67,6 +67,11 @@ impl<T: Word> Lent<T> {
         &self.words[..self.len]
     }
 
+    /// With the words past the end.
+    pub fn all_words(&self) -> &[T] {
+        &self.words
+    }
+
     /// Lends more or fewer words; those there were stay, zeros come after them.
     pub fn set_len(&mut self, len: usize)
     where
@@ -76,39 +81,6 @@ impl<T: Word> Lent<T> {
         self.words.resize(len, T::default());
         self.words.extend((0..BEYOND).map(pattern::<T>));
         self.len = len;
-    }
-}
-
-/// A part of what a call is lent, as it is shown.
-pub struct Part {
-    name: &'static str,
-    /// Whether it is shown as input; else only its length is.
-    shown: bool,
-    words: Vec<u64>,
-    digits: usize,
-}
-
-impl Part {
-    fn new<T: Word>(name: &'static str, shown: bool, words: &[T]) -> Part {
-        let words = words.iter().map(|&word| word.into()).collect();
-        Part {
-            name,
-            shown,
-            words,
-            digits: 2 * size_of::<T>(),
-        }
-    }
-
-    pub fn input<T: Word>(name: &'static str, words: &[T]) -> Part {
-        Part::new(name, true, words)
-    }
-
-    pub fn in_and_out<T: Word>(name: &'static str, lent: &Lent<T>) -> Part {
-        Part::new(name, true, &lent.words)
-    }
-
-    pub fn output<T: Word>(name: &'static str, lent: &Lent<T>) -> Part {
-        Part::new(name, false, &lent.words)
     }
 }
 
@@ -124,9 +96,6 @@ pub trait Call: Clone + PartialEq {
 
     fn parts(&self) -> Vec<Part>;
 }
-
-/// What is told of the first difference.
-pub struct Difference(pub String);
 
 /// What was lent, and nothing else but the result: so must a refusal leave it.
 fn as_lent<C: Call>(lent: &C, answered: &C) -> C {
@@ -149,64 +118,4 @@ pub fn both<C: Call>(lent: &C, tally: &mut Tally) -> Result<(u32, C), Difference
     }
     tally.count(lent.function(), due_number);
     Ok((due_number, due))
-}
-
-/// Lines and columns of the input that are shown.
-const MOST_LINES: usize = 64;
-const LINE_DIGITS: usize = 64;
-
-fn put_line(text: &mut String, line: std::fmt::Arguments) {
-    writeln!(text, "{line}").expect("a string takes every line");
-}
-
-fn difference<C: Call>(lent: &C, due: (u32, &C), given: (u32, &C)) -> Difference {
-    let mut text = String::new();
-    put_line(
-        &mut text,
-        format_args!(
-            "{}: independent {}, library {}",
-            lent.function().name(),
-            due.0,
-            given.0
-        ),
-    );
-    for (a, b) in due.1.parts().iter().zip(&given.1.parts()) {
-        put_differing(&mut text, a, b);
-    }
-    put_line(&mut text, format_args!("input:"));
-    put_input(&mut text, &lent.parts());
-    Difference(text)
-}
-
-/// The first word in which a part differs.
-fn put_differing(text: &mut String, due: &Part, given: &Part) {
-    let found = due.words.iter().zip(&given.words).position(|(a, b)| a != b);
-    if let Some(at) = found {
-        let (name, a, b) = (due.name, due.words[at], given.words[at]);
-        put_line(
-            text,
-            format_args!("{name} at {at}: independent {a:#x}, library {b:#x}"),
-        );
-    }
-}
-
-fn part_lines(part: &Part) -> Vec<String> {
-    let digits = part.digits;
-    let shown = if part.shown { &part.words[..] } else { &[] };
-    let line = |words: &[u64]| {
-        words
-            .iter()
-            .map(|word| format!("{word:0digits$x} "))
-            .collect()
-    };
-    let lines = shown.chunks(LINE_DIGITS / digits).take(MOST_LINES);
-    let mut all = vec![format!("{}, {} words:", part.name, part.words.len())];
-    all.extend(lines.map(line));
-    all
-}
-
-fn put_input(text: &mut String, parts: &[Part]) {
-    for line in parts.iter().flat_map(part_lines).take(MOST_LINES) {
-        put_line(text, format_args!("{}", line.trim_end()));
-    }
 }

@@ -6,9 +6,10 @@
 
 mod call;
 mod kinds;
+mod report;
 mod tally;
 
-use call::Difference;
+use report::Difference;
 use std::panic::{catch_unwind, AssertUnwindSafe};
 use std::process::ExitCode;
 use std::sync::atomic::{AtomicU64, Ordering};

@@ -10,7 +10,8 @@ pub mod sequence;
 mod states;
 pub mod steps;
 
-use crate::call::{Difference, Lent};
+use crate::call::Lent;
+use crate::report::Difference;
 use crate::tally::Tally;
 use independent::random::Random;
 

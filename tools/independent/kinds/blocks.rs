@@ -1,7 +1,8 @@
 //! Block files: walk and listing.
 
 use super::{random_result, random_room};
-use crate::call::{both, Call, Difference, Lent, Part};
+use crate::call::{both, Call, Lent};
+use crate::report::{Difference, Part};
 use crate::tally::{Function, Tally};
 use independent::blocks::ROW;
 use independent::files::blocks::{append, mend_sizes, random_file};

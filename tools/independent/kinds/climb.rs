@@ -2,7 +2,8 @@
 
 use super::blocks::RESULT_WORDS;
 use super::{random_result, random_room};
-use crate::call::{both, Call, Difference, Lent, Part};
+use crate::call::{both, Call, Lent};
+use crate::report::{Difference, Part};
 use crate::tally::{Function, Tally};
 use independent::files::climb::{any_list, damage_text, random_climb, text_of};
 use independent::random::Random;

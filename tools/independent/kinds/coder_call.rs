@@ -1,6 +1,7 @@
 //! A call of any of the coder's functions.
 
-use crate::call::{Call, Lent, Part};
+use crate::call::{Call, Lent};
+use crate::report::Part;
 use crate::tally::Function;
 use sides::Side;
 

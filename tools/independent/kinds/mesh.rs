@@ -1,7 +1,8 @@
 //! Mesh declarations and base meshes.
 
 use super::{random_result, random_room};
-use crate::call::{both, Call, Difference, Lent, Part};
+use crate::call::{both, Call, Lent};
+use crate::report::{Difference, Part};
 use crate::tally::{Function, Tally};
 use independent::files::damage::{damage, damage_some};
 use independent::files::mesh::{

@@ -1,6 +1,7 @@
 //! Lists of steps up and down on a small mesh, with damage between them.
 
-use crate::call::{both, Call, Difference, Lent, Part};
+use crate::call::{both, Call, Lent};
+use crate::report::{Difference, Part};
 use crate::tally::{Function, Tally};
 use independent::files::climb::{random_climb, Climb, FACE_NUMBERS, POSITION_NUMBERS};
 use independent::files::damage::other_value;
@@ -121,9 +122,10 @@ fn damage_length(random: &mut Random, table: &mut Lent<u32>, spread: usize) {
 }
 
 fn damage_list_length(random: &mut Random, list: &mut Vec<u32>) {
-    match random.below(3) {
+    match random.below(4) {
         0 => list.push(random.u32_below(3)),
-        _ => list.truncate(list.len() - random.below(list.len().min(4))),
+        1 => list.truncate(random.below(4)),
+        _ => list.truncate(list.len() - random.below(list.len().min(3) + 1)),
     }
 }
 
