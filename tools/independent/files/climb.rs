@@ -20,8 +20,8 @@ const MOVES_AT: usize = 4;
 
 const MOST_BASE: usize = 6;
 const MOST_STEPS: usize = 6;
-const MOST_MOVES: usize = 5;
-const MOST_NEW: usize = 4;
+const MOST_MOVES: u32 = 5;
+const MOST_NEW: u32 = 4;
 
 /// A base mesh and a list whose steps are all allowed on it, one after the other.
 pub struct Climb {
@@ -36,31 +36,10 @@ pub struct Climb {
     pub steps: u32,
 }
 
-/// The corners' positions as the steps move them, while a list is made.
-struct Corners {
-    of_face: Vec<[u32; CORNERS]>,
-}
-
-impl Corners {
-    fn any_held(&self, random: &mut Random) -> Option<u32> {
-        if self.of_face.is_empty() {
-            return None;
-        }
-        Some(random.pick(&self.of_face)[random.below(CORNERS)])
-    }
-}
-
-fn random_corners(random: &mut Random, faces: usize, positions: u32) -> Corners {
-    let corner = |random: &mut Random| [0; CORNERS].map(|_: u32| random.u32_below(positions));
-    Corners {
-        of_face: (0..faces).map(|_| corner(random)).collect(),
-    }
-}
-
-/// Records of these corners; the other numbers are not 0.
-fn face_records(random: &mut Random, corners: &Corners) -> Vec<u32> {
-    let mut records = Vec::with_capacity(corners.of_face.len() * FACE_NUMBERS);
-    for face in &corners.of_face {
+/// Records of faces with these corners; the other numbers are not 0.
+fn face_records(random: &mut Random, corners: &[[u32; CORNERS]]) -> Vec<u32> {
+    let mut records = Vec::with_capacity(corners.len() * FACE_NUMBERS);
+    for face in corners {
         let start = records.len();
         records.extend((0..FACE_NUMBERS).map(|_| 1 + random.u32_below(9)));
         for (corner, &position) in face.iter().enumerate() {
@@ -70,66 +49,67 @@ fn face_records(random: &mut Random, corners: &Corners) -> Vec<u32> {
     records
 }
 
-/// Moves of corners that hold the split position; gives how many.
-fn put_moves(
-    list: &mut Vec<u32>,
-    random: &mut Random,
-    corners: &mut Corners,
-    s: u32,
-    r: u32,
-) -> u32 {
-    let mut moves = 0;
-    for at in 0..corners.of_face.len() * CORNERS {
-        let (face, corner) = (at / CORNERS, at % CORNERS);
-        let held = &mut corners.of_face[face][corner];
-        if *held == s && (moves as usize) < MOST_MOVES && !random.once_in(3) {
-            *held = r;
-            list.extend([face as u32, corner as u32]);
-            moves += 1;
+/// A list while it is made, and each face's corners as its steps move them.
+struct Maker<'a> {
+    random: &'a mut Random,
+    list: Vec<u32>,
+    corners: Vec<[u32; CORNERS]>,
+    shadings: u32,
+}
+
+impl Maker<'_> {
+    /// Mostly a position that a corner holds.
+    fn pick_split(&mut self, r: u32) -> u32 {
+        if self.corners.is_empty() || self.random.once_in(3) {
+            return self.random.u32_below(r);
         }
+        self.random.pick(&self.corners)[self.random.below(CORNERS)]
     }
-    moves
-}
 
-/// A new face of r, s and another position, in any order.
-fn put_new_face(
-    list: &mut Vec<u32>,
-    random: &mut Random,
-    shadings: u32,
-    s: u32,
-    r: u32,
-) -> [u32; CORNERS] {
-    let other = random.u32_below(r - 1);
-    let mut three = [r, s, if other >= s { other + 1 } else { other }];
-    three.rotate_left(random.below(CORNERS));
-    if random.once_in(2) {
-        three.reverse();
+    /// Moves corners that hold s to r; gives how many.
+    fn put_moves(&mut self, s: u32, r: u32) -> u32 {
+        let mut moves = 0;
+        for at in 0..self.corners.len() * CORNERS {
+            let (face, corner) = (at / CORNERS, at % CORNERS);
+            let held = &mut self.corners[face][corner];
+            if *held == s && moves < MOST_MOVES && !self.random.once_in(3) {
+                *held = r;
+                self.list.extend([face as u32, corner as u32]);
+                moves += 1;
+            }
+        }
+        moves
     }
-    list.push(random.u32_below(shadings));
-    list.extend(three);
-    three
-}
 
-fn put_step(
-    list: &mut Vec<u32>,
-    random: &mut Random,
-    corners: &mut Corners,
-    shadings: u32,
-    r: u32,
-) {
-    let split = match corners.any_held(random) {
-        Some(held) if !random.once_in(3) => held,
-        _ => random.u32_below(r),
-    };
-    let new_faces = if r < 2 { 0 } else { random.below(MOST_NEW + 1) };
-    let at = list.len();
-    list.push(split);
-    list.extend((0..POSITION_NUMBERS).map(|_| if random.once_in(4) { 0 } else { random.u32() }));
-    list.extend([0, new_faces as u32]);
-    list[at + MOVES_AT] = put_moves(list, random, corners, split, r);
-    for _ in 0..new_faces {
-        let face = put_new_face(list, random, shadings, split, r);
-        corners.of_face.push(face);
+    /// A new face of r, s and another position, in any order.
+    fn put_new_face(&mut self, s: u32, r: u32) {
+        let other = self.random.u32_below(r - 1);
+        let mut three = [r, s, if other >= s { other + 1 } else { other }];
+        three.rotate_left(self.random.below(CORNERS));
+        if self.random.once_in(2) {
+            three.reverse();
+        }
+        self.list.push(self.random.u32_below(self.shadings));
+        self.list.extend(three);
+        self.corners.push(three);
+    }
+
+    /// The step at r positions.
+    fn put_step(&mut self, r: u32) {
+        let split = self.pick_split(r);
+        let new_faces = if r < 2 {
+            0
+        } else {
+            self.random.u32_below(MOST_NEW + 1)
+        };
+        let at = self.list.len();
+        let number = |random: &mut Random| if random.once_in(4) { 0 } else { random.u32() };
+        self.list.push(split);
+        self.list
+            .extend((0..POSITION_NUMBERS).map(|_| number(self.random)));
+        self.list.extend([0, new_faces]);
+        self.list[at + MOVES_AT] = self.put_moves(split, r);
+        (0..new_faces).for_each(|_| self.put_new_face(split, r));
     }
 }
 
@@ -143,31 +123,28 @@ pub fn random_climb(random: &mut Random) -> Climb {
         random.from_to(1, MOST_STEPS) as u32
     };
     let shadings = random.from_to(1, 3) as u32;
-    let mut corners = random_corners(random, base_faces, base_positions);
+    let face = |_| [0; CORNERS].map(|_: u32| random.u32_below(base_positions));
+    let corners: Vec<_> = (0..base_faces).map(face).collect();
     let faces = face_records(random, &corners);
     let numbers = base_positions as usize * POSITION_NUMBERS;
     let positions = (0..numbers).map(|_| random.u32()).collect();
-    let mut list = vec![base_positions, base_faces as u32, steps];
-    for k in 0..steps {
-        put_step(
-            &mut list,
-            random,
-            &mut corners,
-            shadings,
-            base_positions + k,
-        );
-    }
-    let all_faces = corners.of_face.len() as u32;
-    let base_faces = base_faces as u32;
-    Climb {
+    let list = vec![base_positions, base_faces as u32, steps];
+    let mut maker = Maker {
+        random,
         list,
+        corners,
+        shadings,
+    };
+    (0..steps).for_each(|k| maker.put_step(base_positions + k));
+    Climb {
         shadings,
         positions,
         faces,
         base_positions,
-        base_faces,
-        all_faces,
+        base_faces: base_faces as u32,
+        all_faces: maker.corners.len() as u32,
         steps,
+        list: maker.list,
     }
 }
 

@@ -3,7 +3,9 @@
 use crate::call::{both, Call, Lent};
 use crate::report::{Difference, Part};
 use crate::tally::{Function, Tally};
-use independent::files::climb::{random_climb, Climb, FACE_NUMBERS, POSITION_NUMBERS};
+use independent::files::climb::{
+    random_climb, Climb, FACE_NUMBERS, MOVE_NUMBERS, POSITION_NUMBERS,
+};
 use independent::files::damage::other_value;
 use independent::random::Random;
 use sides::Side;
@@ -92,25 +94,27 @@ fn damage_word(random: &mut Random, words: &mut [u32]) {
     }
 }
 
+/// Two words once more in place of the two after them: a pair that is moved twice, say.
+fn repeat_pair(random: &mut Random, list: &mut [u32]) {
+    if list.len() >= 2 * MOVE_NUMBERS {
+        let at = random.below(list.len() - 2 * MOVE_NUMBERS + 1);
+        list.copy_within(at..at + MOVE_NUMBERS, at + MOVE_NUMBERS);
+    }
+}
+
 /// A number of the record that a step writes or looks at: the first past those present, or the last.
 fn damage_record(random: &mut Random, call: &mut StepCall) {
-    let (at_face, width) = if random.once_in(2) {
-        (true, FACE_NUMBERS)
-    } else {
-        (false, POSITION_NUMBERS)
+    let [positions, faces] = [0, 1].map(|at| call.counts.words()[at] as usize);
+    let (table, present, width) = match random.once_in(2) {
+        true => (&mut call.faces, faces, FACE_NUMBERS),
+        false => (&mut call.positions, positions, POSITION_NUMBERS),
     };
-    let present = call.counts.words()[usize::from(at_face)] as usize;
     let record = if call.up {
         present
     } else {
         present.saturating_sub(1)
     };
     let at = record * width + random.below(width);
-    let table = if at_face {
-        &mut call.faces
-    } else {
-        &mut call.positions
-    };
     if let Some(word) = table.lend().get_mut(at) {
         *word ^= 1;
     }
@@ -130,7 +134,7 @@ fn damage_list_length(random: &mut Random, list: &mut Vec<u32>) {
 }
 
 fn damage_call(random: &mut Random, call: &mut StepCall) {
-    match random.below(14) {
+    match random.below(15) {
         0..=3 => damage_word(random, &mut call.list),
         4 => damage_list_length(random, &mut call.list),
         5 => damage_word(random, call.counts.lend()),
@@ -140,6 +144,7 @@ fn damage_call(random: &mut Random, call: &mut StepCall) {
         9 => damage_length(random, &mut call.faces, 2 * FACE_NUMBERS),
         10 => damage_length(random, &mut call.positions, 3 * POSITION_NUMBERS),
         11 => call.counts.set_len(random.below(2 * COUNTS)),
+        12 => repeat_pair(random, &mut call.list),
         _ => damage_record(random, call),
     }
 }
