@@ -1,6 +1,7 @@
 //! The two sides of a comparison: the library's functions, and what the independent program says of each.
 
 pub mod expected;
+#[path = "../../include/oysterfold.rs"]
 pub mod library;
 
 /// Reads bytes into a table; the result is place and one other word.
