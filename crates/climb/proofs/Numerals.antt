@@ -11,9 +11,10 @@ use borrow.Author.Tests.{eq-eqb, le-leb, le-ltb, lt-leb, lt-ltb, ltb-false, ltb-
 use lib.Dec.{eqb, leb, ltb}
 use lib.ListN.{drop, drop-of-length-le, getD, length}
 use lib.Seq.{drop-cons}
+use Rattle.fields.specs.Limits.{anyNumber}
 use Rattle.fields.specs.Judged.{pick}
 use Rattle.text.specs.Digits.{digitOf}
-use Rattle.climb.specs.Digits.{anyNumber, areDigits, digitValue, isDecimal, isDigit, isPattern, noLeadingZero, valueAfter, valueOf}
+use Rattle.climb.specs.Digits.{areDigits, digitValue, isDecimal, isDigit, isPattern, noLeadingZero, valueAfter, valueOf}
 use Rattle.climb.specs.Inside.{isNumber, numberIf}
 use Rattle.climb.specs.declared.digits.Number.{Number}
 use Rattle.climb.specs.declared.digits.Number.the-variants.{Bad, Value}

@@ -4,10 +4,9 @@ use Prim.Native.Nat.{ℕ, zero, suc}
 use mathlib.Core.Bool.{Bool, true, false, not}
 use mathlib.Core.List.{List, [], _∷_, _++_}
 use lib.ListN.{drop, length}
-use Rattle.fields.specs.Limits.{largestCount, mostSteps, mostMoves, mostNewFaces}
+use Rattle.fields.specs.Limits.{anyNumber, largestCount, mostSteps, mostMoves, mostNewFaces}
 use Rattle.fields.specs.Numbers.{badSteps}
 use Rattle.fields.specs.Judged.{Judged, done, refused, refusedBy, onDone, pick, refusedIf, roomFor}
-use Rattle.climb.specs.Digits.{anyNumber}
 use Rattle.climb.specs.Lines.{Form, Rule, decimal, pattern, rowFrom, startsWith}
 use Rattle.climb.specs.declared.ClimbRead as climb
 

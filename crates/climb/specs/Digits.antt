@@ -5,11 +5,9 @@ use mathlib.Core.Bool.{Bool, true, _&&_, not}
 use mathlib.Core.List.{List, [], _∷_}
 use lib.Dec.{eqb, leb, ltb}
 use lib.ListN.{getD, length}
+use Rattle.fields.specs.Limits.{anyNumber}
 use Rattle.fields.specs.Judged.{pick}
 use Rattle.text.specs.Digits.{digitOf}
-
-abbrev pub anyNumber : ℕ
-anyNumber = 0xFFFFFFFF
 
 -- the value of a digit 0 to 9, or a to f
 abbrev pub digitValue : ℕ → ℕ

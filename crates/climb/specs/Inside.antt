@@ -6,9 +6,10 @@ use mathlib.Core.List.{List, [], _∷_}
 use lib.Dec.{eqb, leb, ltb}
 use lib.ListN.{drop, getD, length, take}
 use lib.Seq.{sets}
+use Rattle.fields.specs.Limits.{anyNumber}
 use Rattle.fields.specs.Numbers.{badSteps}
 use Rattle.fields.specs.Judged.{Judged, done, refused, onDone, pick, refusedIf}
-use Rattle.climb.specs.Digits.{anyNumber, areDigits, valueOf}
+use Rattle.climb.specs.Digits.{areDigits, valueOf}
 use Rattle.climb.specs.Lines.{Form, Row, Rule, decimal, pattern, fieldsAfter, has, past, until, rowFrom}
 use Rattle.climb.specs.Climb.{Taken, endForm, isEmpty}
 use Rattle.climb.specs.declared.digits.Number as number

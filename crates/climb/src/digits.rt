@@ -1,12 +1,10 @@
 // Numbers that digits write.
+use fields::limits::LARGEST_U32;
 ghost use mathlib.Core.Path.{_≡_};
 ghost use Prim.Native.Nat.{_≤_, _<_};
 ghost use Rattle.fields.specs.Judged.{pick};
 ghost use Rattle.climb.specs.Digits.{digitValue, isDecimal, isDigit, isPattern, valueOf};
 ghost use Rattle.climb.specs.Inside.{isNumber, numberIf};
-
-// The largest U32.
-pub(crate) const ANY: u32 = 0xFFFFFFFF;
 
 // A number below 2^32, or none.
 pub enum Number {
@@ -44,7 +42,7 @@ fn value_of(digits: &[u8], base: u64) -> Number
             return Number::Bad;
         }
         value = value * base + digit;
-        if (ANY as u64) < value {
+        if (LARGEST_U32 as u64) < value {
             return Number::Bad;
         }
         i = i + 1;

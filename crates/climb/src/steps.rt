@@ -1,9 +1,9 @@
 // The lines of the text one after the other: rows of one form, steps, and the whole text.
-use crate::digits::ANY;
 use crate::line::Row;
 use crate::line::read_row;
 use crate::line::starts_with;
 use fields::limits::LARGEST_COUNT;
+use fields::limits::LARGEST_U32 as ANY;
 use fields::limits::MOST_MOVES;
 use fields::limits::MOST_NEW_FACES;
 use fields::limits::MOST_STEPS;

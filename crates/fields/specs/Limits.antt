@@ -1,6 +1,10 @@
 -- The limits (01, "Sizes").
 use Prim.Native.Nat.{ℕ}
 
+-- "every number below 2^32": the largest U32
+abbrev pub anyNumber : ℕ
+anyNumber = 0xFFFFFFFF
+
 -- 16 MiB
 abbrev pub largestFile : ℕ
 largestFile = 0x1000000

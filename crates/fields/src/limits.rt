@@ -1,5 +1,8 @@
 // The limits of document 01, "Sizes".
 
+// any number is at most this: ANY in the tables of rules
+pub const LARGEST_U32: u32 = 0xFFFFFFFF;
+
 // bytes of a file, of mesh data, of a coder's buffer
 pub const LARGEST_FILE: usize = 16777216;
 

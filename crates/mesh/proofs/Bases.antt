@@ -15,12 +15,12 @@ use lib.ListN.{drop, getD, length, length-replicate, replicate, take}
 use lib.Seq.{sets}
 use Rattle.fields.specs.Field.{fieldAt, littleEndian}
 use Rattle.fields.specs.Judged.{Judged, done, refused, onDone}
-use Rattle.fields.specs.Limits.{largestFile}
+use Rattle.fields.specs.Limits.{anyNumber, largestFile}
 use Rattle.fields.specs.Name.{nameAt, namePart, same}
 use Rattle.fields.specs.Numbers.{badName, noRoom, overLimit, truncated}
 use Rattle.fields.specs.declared.numbers.Refusal.{Refusal}
 use Rattle.fields.proofs.Judging.{name-within, not-done, passed, value-before}
-use Rattle.mesh.specs.Run.{Ended, anyNumber, ruledAt, runAt, unjudged, valuesOf}
+use Rattle.mesh.specs.Run.{Ended, ruledAt, runAt, unjudged, valuesOf}
 use Rattle.mesh.specs.Corners.{faceWords}
 use Rattle.mesh.specs.Base.{InPart, Mesh, Tables, answered, baseOf, baseRules, hasRoom, headOf, lengthsOf, meshOf, poolWords, poolsAt, read, refusedIn, tableOf, tablesAfter, wordsIn}
 use Rattle.mesh.specs.Declaration.{declarationOf, meshName}

@@ -3,13 +3,11 @@ use Prim.Native.Nat.{ℕ, zero, suc, _+_, _-_}
 use mathlib.Core.List.{List, [], _∷_, _++_}
 use lib.Dec.{ltb}
 use lib.ListN.{getD, length, replicate}
+use Rattle.fields.specs.Limits.{anyNumber}
 use Rattle.fields.specs.Numbers.{overLimit, outOfOrder}
 use Rattle.fields.specs.Judged.{Judged, done, onDone, refusedIf}
 use Rattle.fields.specs.Field.{fieldAt}
 use Rattle.mesh.specs.declared.run.Rule.{Rule}
-
-abbrev pub anyNumber : ℕ
-anyNumber = 0xFFFFFFFF
 
 -- "fields on which this page sets no rule are handed out unjudged"
 abbrev pub unjudged : Rule

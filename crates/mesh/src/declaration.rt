@@ -1,5 +1,4 @@
 // The mesh declaration (clause 9.6.1.1): its fields in file order, from the name to the bone count.
-use crate::run::ANY;
 use crate::run::Next;
 use crate::run::name_end;
 use crate::run::read_run;
@@ -9,6 +8,7 @@ use crate::shading::no_shadings;
 use crate::shading::read_shadings;
 use fields::limits::LARGEST_COUNT;
 use fields::limits::LARGEST_FILE;
+use fields::limits::LARGEST_U32 as ANY;
 use fields::name::name_part;
 use fields::numbers::BYTES_LEFT;
 use fields::numbers::OVER_LIMIT;

@@ -1,11 +1,11 @@
 // The head of a base mesh continuation (clauses 9.6.1.2.1 to 9.6.1.2.3): name, chain index and six base counts.
 use crate::declaration::Declaration;
 use crate::declaration::mesh_name;
-use crate::run::ANY;
 use crate::run::Next;
 use crate::run::name_end;
 use crate::run::read_run;
 use fields::limits::LARGEST_COUNT;
+use fields::limits::LARGEST_U32 as ANY;
 use fields::name::is_same;
 use fields::numbers::BAD_NAME;
 use fields::numbers::Refusal;

@@ -1,6 +1,7 @@
 // Runs of U32 fields that are judged by a table of rules, and the name before them.
 use fields::field::U32Field;
 use fields::field::u32_at;
+use fields::limits::LARGEST_U32 as ANY;
 use fields::name::NameField;
 use fields::name::name_at;
 use fields::numbers::BAD_NAME;
@@ -13,9 +14,6 @@ ghost use Prim.Native.Nat.{_+_, _*_, _≤_, _<_};
 ghost use lib.ListN.{length};
 ghost use Rattle.mesh.specs.Run.{ruledAt, runAt};
 ghost use Rattle.mesh.specs.Inside.{endedGiven, fieldGiven, nameEnd, nextGiven, ruleAt, rulesFrom, storedRun};
-
-// The largest U32: a field with this limit is not judged.
-pub(crate) const ANY: u32 = 0xFFFFFFFF;
 
 // No rules: such fields are not judged.
 pub(crate) const UNJUDGED: [u32; 0] = [];

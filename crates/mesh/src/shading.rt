@@ -1,10 +1,10 @@
 // The shading descriptions of a mesh declaration (clause 9.6.1.1.3.9).
-use crate::run::ANY;
 use crate::run::Next;
 use crate::run::UNJUDGED;
 use crate::run::read_run;
 use fields::field::U32Field;
 use fields::field::u32_at;
+use fields::limits::LARGEST_U32 as ANY;
 use fields::numbers::Refusal;
 use fields::numbers::TRUNCATED;
 ghost use mathlib.Core.Path.{_≡_};

@@ -8,9 +8,9 @@ use mathlib.Core.Path.{_≡_, refl, subst, sym, _∙_}
 use native.Mathlib.Nat.{add-zero}
 use native.Mathlib.Omega.{arith}
 use borrow.Author.Tests.{le-ltb}
-use Rattle.fields.specs.Limits.{largestCount}
+use Rattle.fields.specs.Limits.{anyNumber, largestCount}
 use Rattle.fields.specs.Judged.{done}
-use Rattle.mesh.specs.Run.{anyNumber, unjudged}
+use Rattle.mesh.specs.Run.{unjudged}
 use Rattle.mesh.specs.Faces.{facesOf}
 use Rattle.mesh.specs.Base.{Mesh, baseCount, baseOf, baseRules, hasRoom, headOf, poolWords, poolsAt, smaller}
 use Rattle.mesh_theorems.specs.Encoding.{All, Stated, UpTo, Words, baseBytes, poolBytes, wordBytes}

@@ -10,10 +10,10 @@ use native.Mathlib.Nat.{zero-add}
 use native.Mathlib.Omega.{arith}
 use borrow.Author.Tests.{eq-eqb, le-ltb}
 use Rattle.fields.specs.Field.{bytesAt, fieldAt, littleEndian}
-use Rattle.fields.specs.Limits.{longestName}
+use Rattle.fields.specs.Limits.{anyNumber, longestName}
 use Rattle.fields.specs.Name.{nameAt, namePart, same, stringAt}
 use Rattle.fields.specs.Judged.{done}
-use Rattle.mesh.specs.Run.{anyNumber, ruledAt, runAt, unjudged}
+use Rattle.mesh.specs.Run.{ruledAt, runAt, unjudged}
 use Rattle.mesh.specs.declared.run.Rule.{Rule}
 use Rattle.mesh_theorems.specs.Encoding.{All, Words, bytesOf, nameBytes, wordBytes}
 use Rattle.mesh_theorems.proofs.Seams.{first-at, past, second-at, within}

@@ -4,8 +4,8 @@ use Prim.Native.Nat.{ℕ, zero, suc, _/_, _%_, _≤_, _<_}
 use mathlib.Core.List.{List, [], _∷_, _++_, map}
 use mathlib.Core.Path.{_≡_}
 use lib.ListN.{getD, length, take}
-use Rattle.fields.specs.Limits.{largestCount, longestName}
-use Rattle.mesh.specs.Run.{anyNumber, filled}
+use Rattle.fields.specs.Limits.{anyNumber, largestCount, longestName}
+use Rattle.mesh.specs.Run.{filled}
 use Rattle.mesh.specs.Shading.{layerLimit, noShading, shadingLimit}
 use Rattle.mesh.specs.Base.{Mesh, poolWords}
 use Rattle.mesh.specs.declared.shading.Shading.{Shading}

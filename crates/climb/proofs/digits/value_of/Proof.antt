@@ -6,7 +6,7 @@ use native.Mathlib.Omega.{arith}
 use borrow.Author.Needs.{needs}
 use denote.Ref.{now}
 use lib.ListN.{drop, length}
-use Rattle.climb.specs.Digits.{anyNumber}
+use Rattle.fields.specs.Limits.{anyNumber}
 use Rattle.climb.proofs.Numerals.{number-large, number-more, number-none, number-stopped, numberAfter}
 use Rattle.climb.proofs.digits.value_of.Statement.{statement}
 use Rattle.climb.proofs.digits.value_of.Tie as tie
