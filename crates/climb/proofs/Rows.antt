@@ -12,7 +12,7 @@ use Rattle.fields.specs.Numbers.{badSteps}
 use Rattle.fields.specs.Limits.{mostMoves, mostNewFaces}
 use Rattle.fields.proofs.Judging.{refusal-before, same-done, value-before}
 use Rattle.climb.specs.Lines.{Form, rowFrom, startsWith}
-use Rattle.climb.specs.Climb.{Taken, faceForm, moveForm, noneTaken, rowsFrom, splitForm, stepFrom, stepsFrom}
+use Rattle.climb.specs.Climb.{Taken, faceForm, itemsFrom, moveForm, noneTaken, rowTaken, rowsFrom, splitForm, stepFrom}
 use Rattle.climb.specs.Inside.{Stored, stored, takenGiven}
 use Rattle.climb.specs.declared.steps.Place.{Place}
 use Rattle.climb.specs.declared.steps.Taken as taken
@@ -42,45 +42,6 @@ stored-more (done t) count table to vs =
     let z′ : to + (length vs + length (t .words)) ≡ to + length vs + length (t .words) = omega arith in
     rw (z, sets-append table to vs (t .words), length-append vs (t .words), z′)
 stored-more (refused n p) count table to vs = refl
-
--- ---- rows
-
-module _ (form : Form) (text : List ℕ) (most count : ℕ) (table : List ℕ) (to line at : ℕ) where
-  none-by : (left : ℕ) → startsWith (form .word) (drop at text) ≡ false
-      → stored count table to (rowsFrom form left line (drop at text))
-      ≡ done (record { count = count; table = table; to = to; line = line; rest = drop at text })
-  unfolding rowsFrom
-  none-by zero e = rw (rowsFrom, e) (stored-none count table to line (drop at text))
-  none-by (suc left) e = rw (rowsFrom, e) (stored-none count table to line (drop at text))
-
-  pub rows-none : startsWith (form .word) (drop at text) ≡ false
-      → stored count table to (rowsFrom form (most - count) line (drop at text))
-      ≡ done (record { count = count; table = table; to = to; line = line; rest = drop at text })
-  rows-none e = none-by (most - count) e
-
-  module _ (e : startsWith (form .word) (drop at text) ≡ true) where
-    pub rows-over : most ≤ count → stored count table to (rowsFrom form (most - count) line (drop at text)) ≡ refused badSteps line
-    unfolding rowsFrom
-    rows-over h =
-        let k : most - count ≡ 0 = omega arith in
-        rw (k, rowsFrom, e)
-
-    pub rows-bad : count < most → rowFrom form line (drop at text) ≡ refused badSteps line
-        → stored count table to (rowsFrom form (most - count) line (drop at text)) ≡ refused badSteps line
-    unfolding rowsFrom
-    rows-bad h f =
-        let k : most - count ≡ suc (most - (count + 1)) = omega arith in
-        rw (k, rowsFrom, e, f)
-
-    pub rows-more : (next width : ℕ) (after : List ℕ) → count < most → length (form .rules) ≡ width → RowTold text form line at to next table after
-        → stored count table to (rowsFrom form (most - count) line (drop at text))
-        ≡ stored (count + 1) after (to + width) (rowsFrom form (most - (count + 1)) (line + 1) (drop next text))
-    unfolding rowsFrom
-    rows-more next width after h w f =
-        let k : most - count ≡ suc (most - (count + 1)) = omega arith in
-        let z : width ≡ length (f .row .values) = sym (f .long ∙ w) in
-        rw (k, rowsFrom, e, f .read, f .goes-on, f .stored-values, z, add-one line)
-        (stored-more (rowsFrom form (most - (count + 1)) (suc line) (drop next text)) count table to (f .row .values))
 
 -- ---- what a caller learns
 
@@ -114,6 +75,60 @@ module _ (text : List ℕ) (j : Judged Taken) (table : List ℕ) (to : ℕ) (aft
 
   pub taken-refused : (line : ℕ) → r ≡ taken.the-variants.Bad line → j ≡ refused badSteps line
   taken-refused line f = refusal-before j _ badSteps line (sym e ∙ ap (λ (x : taken.Taken). takenGiven text x after) f)
+
+-- ---- rows or steps, one by one
+
+module _ (word : List ℕ) (item : ℕ → List ℕ → Judged Taken) (text : List ℕ) (most count : ℕ) (table : List ℕ) (to line at : ℕ) where
+  none-by : (left : ℕ) → startsWith word (drop at text) ≡ false
+      → stored count table to (itemsFrom word item left line (drop at text))
+      ≡ done (record { count = count; table = table; to = to; line = line; rest = drop at text })
+  unfolding itemsFrom
+  none-by zero e = rw (itemsFrom, e) (stored-none count table to line (drop at text))
+  none-by (suc left) e = rw (itemsFrom, e) (stored-none count table to line (drop at text))
+
+  pub items-none : startsWith word (drop at text) ≡ false
+      → stored count table to (itemsFrom word item (most - count) line (drop at text))
+      ≡ done (record { count = count; table = table; to = to; line = line; rest = drop at text })
+  items-none e = none-by (most - count) e
+
+  module _ (e : startsWith word (drop at text) ≡ true) where
+    pub items-over : most ≤ count → stored count table to (itemsFrom word item (most - count) line (drop at text)) ≡ refused badSteps line
+    unfolding itemsFrom
+    items-over h =
+        let k : most - count ≡ 0 = omega arith in
+        rw (k, itemsFrom, e)
+
+    pub items-bad : (bad : ℕ) → count < most → item line (drop at text) ≡ refused badSteps bad
+        → stored count table to (itemsFrom word item (most - count) line (drop at text)) ≡ refused badSteps bad
+    unfolding itemsFrom
+    items-bad bad h f =
+        let k : most - count ≡ suc (most - (count + 1)) = omega arith in
+        rw (k, itemsFrom, e, f)
+
+    pub items-more : (n : ℕ) (next : Place) (after : List ℕ) → count < most → TakenTold text (item line (drop at text)) table to n next after
+        → stored count table to (itemsFrom word item (most - count) line (drop at text))
+        ≡ stored (count + 1) after (next .to) (itemsFrom word item (most - (count + 1)) (next .line) (drop (next .at) text))
+    unfolding itemsFrom
+    items-more n next after h f =
+        let k : most - count ≡ suc (most - (count + 1)) = omega arith in
+        rw (k, itemsFrom, e, f .read, f .goes-on, f .lined, f .stored-words, f .moved)
+        (stored-more (itemsFrom word item (most - (count + 1)) (next .line) (drop (next .at) text)) count table to (f .taken .words))
+
+-- ---- a row
+
+-- a line that was read is one row of that width
+pub row-taken : {text : List ℕ} {form : Form} {line at to next : ℕ} {table after : List ℕ} (width : ℕ) → length (form .rules) ≡ width
+    → RowTold text form line at to next table after
+    → TakenTold text (rowTaken form line (drop at text)) table to 1 (record { at = next; line = line + 1; to = to + width }) after
+row-taken {line = line} {to = to} width w f = record {
+  taken = record { count = 1; words = f .row .values; line = suc line; rest = f .row .rest };
+  read = rw (f .read);
+  counted = refl;
+  stored-words = f .stored-values;
+  moved = ap (λ (k : ℕ). to + k) (sym (f .long ∙ w));
+  lined = sym (add-one line);
+  goes-on = f .goes-on;
+}
 
 -- ---- a step
 
@@ -180,41 +195,3 @@ module _ (text : List ℕ) (line at to : ℕ) (table : List ℕ) where
           (e ∙ rw (f .stored-words, m .stored-words, s .stored-values, m .moved)
           (step-stored table to moves faces (s .row .values) (m .taken .words) (f .taken .words) long))
           (omega (arith, m .moved, f .moved)) (sym (f .lined)) (sym (f .goes-on)))
-
--- ---- steps
-
-module _ (text : List ℕ) (most count : ℕ) (table : List ℕ) (to line at : ℕ) where
-  no-steps-by : (left : ℕ) → startsWith (splitForm .word) (drop at text) ≡ false
-      → stored count table to (stepsFrom left line (drop at text))
-      ≡ done (record { count = count; table = table; to = to; line = line; rest = drop at text })
-  unfolding stepsFrom
-  no-steps-by zero e = rw (stepsFrom, e) (stored-none count table to line (drop at text))
-  no-steps-by (suc left) e = rw (stepsFrom, e) (stored-none count table to line (drop at text))
-
-  pub steps-none : startsWith (splitForm .word) (drop at text) ≡ false
-      → stored count table to (stepsFrom (most - count) line (drop at text))
-      ≡ done (record { count = count; table = table; to = to; line = line; rest = drop at text })
-  steps-none e = no-steps-by (most - count) e
-
-  module _ (e : startsWith (splitForm .word) (drop at text) ≡ true) where
-    pub steps-over : most ≤ count → stored count table to (stepsFrom (most - count) line (drop at text)) ≡ refused badSteps line
-    unfolding stepsFrom
-    steps-over h =
-        let k : most - count ≡ 0 = omega arith in
-        rw (k, stepsFrom, e)
-
-    pub steps-bad : (bad : ℕ) → count < most → stepFrom line (drop at text) ≡ refused badSteps bad
-        → stored count table to (stepsFrom (most - count) line (drop at text)) ≡ refused badSteps bad
-    unfolding stepsFrom
-    steps-bad bad h f =
-        let k : most - count ≡ suc (most - (count + 1)) = omega arith in
-        rw (k, stepsFrom, e, f)
-
-    pub steps-more : (n : ℕ) (next : Place) (after : List ℕ) → count < most → TakenTold text (stepFrom line (drop at text)) table to n next after
-        → stored count table to (stepsFrom (most - count) line (drop at text))
-        ≡ stored (count + 1) after (next .to) (stepsFrom (most - (count + 1)) (next .line) (drop (next .at) text))
-    unfolding stepsFrom
-    steps-more n next after h f =
-        let k : most - count ≡ suc (most - (count + 1)) = omega arith in
-        rw (k, stepsFrom, e, f .read, f .goes-on, f .lined, f .stored-words, f .moved)
-        (stored-more (stepsFrom (most - (count + 1)) (next .line) (drop (next .at) text)) count table to (f .taken .words))

@@ -50,14 +50,24 @@ pub record Taken : Type 0 where
 abbrev pub noneTaken : ℕ → List ℕ → Taken
 noneTaken line text = record { count = 0; words = []; line = line; rest = text }
 
--- the lines of that form that come next, at most so many: one more is refused at its line
-unfoldable pub rowsFrom : Form → ℕ → ℕ → List ℕ → Judged Taken
-rowsFrom form zero line text = refusedIf (startsWith (form .word) text) badSteps line (done (noneTaken line text))
-rowsFrom form (suc left) line text =
-    pick (not (startsWith (form .word) text)) (done (noneTaken line text))
-    (onDone (rowFrom form line text) λ row.
-    onDone (rowsFrom form left (suc line) (row .rest)) λ more.
-    done (record { count = suc (more .count); words = row .values ++ more .words; line = more .line; rest = more .rest }))
+-- the rows or steps that come next, at most so many: each begins with that word and is read by `item`; one more is refused at its line
+unfoldable pub itemsFrom : List ℕ → (ℕ → List ℕ → Judged Taken) → ℕ → ℕ → List ℕ → Judged Taken
+itemsFrom word item zero line text = refusedIf (startsWith word text) badSteps line (done (noneTaken line text))
+itemsFrom word item (suc left) line text =
+    pick (not (startsWith word text)) (done (noneTaken line text))
+    (onDone (item line text) λ first.
+    onDone (itemsFrom word item left (first .line) (first .rest)) λ more.
+    done (record { count = suc (more .count); words = first .words ++ more .words; line = more .line; rest = more .rest }))
+
+-- a line of that form, as one row
+abbrev pub rowTaken : Form → ℕ → List ℕ → Judged Taken
+rowTaken form line text =
+    onDone (rowFrom form line text) λ row.
+    done (record { count = 1; words = row .values; line = suc line; rest = row .rest })
+
+-- the lines of that form that come next, at most so many
+abbrev pub rowsFrom : Form → ℕ → ℕ → List ℕ → Judged Taken
+rowsFrom form = itemsFrom (form .word) (rowTaken form)
 
 -- a step: its split, "then its moves .., then its new faces"
 unfoldable pub stepFrom : ℕ → List ℕ → Judged Taken
@@ -72,14 +82,9 @@ stepFrom line text =
       rest = faces .rest;
     })
 
--- the steps that come next, at most so many: one more is refused at its split line
-unfoldable pub stepsFrom : ℕ → ℕ → List ℕ → Judged Taken
-stepsFrom zero line text = refusedIf (startsWith (splitForm .word) text) badSteps line (done (noneTaken line text))
-stepsFrom (suc left) line text =
-    pick (not (startsWith (splitForm .word) text)) (done (noneTaken line text))
-    (onDone (stepFrom line text) λ step.
-    onDone (stepsFrom left (step .line) (step .rest)) λ more.
-    done (record { count = suc (more .count); words = step .words ++ more .words; line = more .line; rest = more .rest }))
+-- the steps that come next, at most so many
+abbrev pub stepsFrom : ℕ → ℕ → List ℕ → Judged Taken
+stepsFrom = itemsFrom (splitForm .word) stepFrom
 
 abbrev pub isEmpty : List ℕ → Bool
 isEmpty [] = true

@@ -4,6 +4,7 @@ use mathlib.Core.Path.{_≡_, _∙_, ap, refl, sym}
 use mathlib.Core.Bool.{Bool, true, false, _&&_, not}
 use mathlib.Core.List.{List, [], _∷_, _++_, append-assoc}
 use Prim.Native.Nat.{ℕ, zero, suc, _+_, _*_, _<_, _≤_}
+use native.Mathlib.Nat.{mul-suc}
 use native.Mathlib.Omega.{arith}
 use borrow.Author.Tests.{eq-eqb, le-leb, leb-true, not-false}
 use lib.Dec.{leb}
@@ -11,12 +12,12 @@ use lib.ListN.{drop, getD, length, length-append, List·getD-append}
 use lib.Seq.{getD-append-add}
 use Rattle.fields.specs.Limits.{largestCount, mostMoves, mostNewFaces, mostSteps}
 use Rattle.fields.specs.Numbers.{badSteps}
-use Rattle.fields.specs.Judged.{done, onDone, pick}
+use Rattle.fields.specs.Judged.{Judged, done, onDone, pick}
 use Rattle.fields.proofs.All.{all-true}
 use Rattle.fields.proofs.Judging.{passed, same-done, value-before}
 use Rattle.climb.specs.Digits.{isDecimal, valueOf}
 use Rattle.climb.specs.Lines.{Form, Row, Rule, decimal, fieldOf, fieldsAfter, has, past, pattern, rowFrom, startsWith, tab, until, lineFeed}
-use Rattle.climb.specs.Climb.{Taken, climbOf, endForm, faceForm, headForm, isEmpty, moveForm, rowsFrom, splitForm, stepFrom, stepsFrom}
+use Rattle.climb.specs.Climb.{Taken, climbOf, endForm, faceForm, headForm, isEmpty, itemsFrom, moveForm, rowTaken, rowsFrom, splitForm, stepFrom, stepsFrom}
 use Rattle.progressive.specs.StepTable.{cornerFormed, headWords, moveWords, newFaceWords, nextStep, stepFormed, stepFormedAt, stepOffset, stepWords, wellFormed}
 use Rattle.progressive.proofs.Indexed.{and-left, and-right}
 
@@ -64,50 +65,60 @@ row-ruled form line text row e =
     let fields = value-before (fieldsAfter line (form .rules) (until lineFeed text)) _ row (started .1) in
     rw (← same-done (fields .2)) (fields-ruled line (form .rules) (until lineFeed text) (fields .0) (fields .1))
 
+-- ---- rows or steps, one by one
+
+-- so many, one after the other, `p` of each
+data Items (p : List ℕ → Type 0) : ℕ → List ℕ → Type 0 where
+  no-items : Items p 0 []
+  item-first : {n : ℕ} {vs ws : List ℕ} → p vs → Items p n ws → Items p (suc n) (vs ++ ws)
+
+record ItemsTaken (p : List ℕ → Type 0) (left : ℕ) (r : Taken) : Type 0 where
+  few : r .count ≤ left
+  items : Items p (r .count) (r .words)
+
+module _ (p : List ℕ → Type 0) (word : List ℕ) (item : ℕ → List ℕ → Judged Taken)
+    (holds : (line : ℕ) (text : List ℕ) (r : Taken) → item line text ≡ done r → p (r .words)) where
+  items-taken : (left line : ℕ) (text : List ℕ) (r : Taken) → itemsFrom word item left line text ≡ done r → ItemsTaken p left r
+  unfolding itemsFrom
+  items-taken zero line text r e =
+      let kept = passed (startsWith word text) badSteps line _ r e in
+      rw (← same-done (kept .1)) (record { few = omega arith; items = no-items })
+  items-taken (suc left) line text r e = go (startsWith word text) e (items-taken left)
+    where
+      go : (b : Bool) → pick (not b) (done (record { count = 0; words = []; line = line; rest = text }))
+          (onDone (item line text) λ first.
+          onDone (itemsFrom word item left (first .line) (first .rest)) λ more.
+          done (record { count = suc (more .count); words = first .words ++ more .words; line = more .line; rest = more .rest })) ≡ done r
+          → ((line : ℕ) (text : List ℕ) (r : Taken) → itemsFrom word item left line text ≡ done r → ItemsTaken p left r)
+          → ItemsTaken p (suc left) r
+      go false h ih = rw (← same-done h) (record { few = omega arith; items = no-items })
+      go true h ih =
+          let first = value-before (item line text) _ r h in
+          let more = value-before (itemsFrom word item left (first .0 .line) (first .0 .rest)) _ r (first .2) in
+          let rest = ih (first .0 .line) (first .0 .rest) (more .0) (more .1) in
+          rw (← same-done (more .2)) (record { few = omega (arith, rest .few); items = item-first (holds line text (first .0) (first .1)) (rest .items) })
+
 -- ---- rows of one form
 
--- rows one after the other
-data Rows (form : Form) : ℕ → List ℕ → Type 0 where
-  no-rows : Rows form 0 []
-  row-first : {n : ℕ} {vs ws : List ℕ} → Ruled (form .rules) vs → Rows form n ws → Rows form (suc n) (vs ++ ws)
+abbrev Rows : Form → ℕ → List ℕ → Type 0
+Rows form = Items (Ruled (form .rules))
 
-record RowsTaken (form : Form) (left : ℕ) (r : Taken) : Type 0 where
-  few : r .count ≤ left
-  rows : Rows form (r .count) (r .words)
+rows-taken : (form : Form) (left line : ℕ) (text : List ℕ) (r : Taken) → rowsFrom form left line text ≡ done r → ItemsTaken (Ruled (form .rules)) left r
+rows-taken form =
+    items-taken (Ruled (form .rules)) (form .word) (rowTaken form) λ line text r e.
+    let row = value-before (rowFrom form line text) _ r e in
+    rw (← same-done (row .2)) (row-ruled form line text (row .0) (row .1))
 
-rows-taken : (form : Form) (left line : ℕ) (text : List ℕ) (r : Taken) → rowsFrom form left line text ≡ done r → RowsTaken form left r
-unfolding rowsFrom
-rows-taken form zero line text r e =
-    let kept = passed (startsWith (form .word) text) badSteps line _ r e in
-    rw (← same-done (kept .1)) (record { few = omega arith; rows = no-rows })
-rows-taken form (suc left) line text r e = go (startsWith (form .word) text) e (rows-taken form left)
-  where
-    go : (b : Bool) → pick (not b) (done (record { count = 0; words = []; line = line; rest = text }))
-        (onDone (rowFrom form line text) λ row.
-        onDone (rowsFrom form left (suc line) (row .rest)) λ more.
-        done (record { count = suc (more .count); words = row .values ++ more .words; line = more .line; rest = more .rest })) ≡ done r
-        → ((line : ℕ) (text : List ℕ) (r : Taken) → rowsFrom form left line text ≡ done r → RowsTaken form left r)
-        → RowsTaken form (suc left) r
-    go false h ih = rw (← same-done h) (record { few = omega arith; rows = no-rows })
-    go true h ih =
-        let row = value-before (rowFrom form line text) _ r h in
-        let more = value-before (rowsFrom form left (suc line) (row .0 .rest)) _ r (row .2) in
-        let rest = ih (suc line) (row .0 .rest) (more .0) (more .1) in
-        rw (← same-done (more .2)) (record { few = omega (arith, rest .few); rows = row-first (row-ruled form line text (row .0) (row .1)) (rest .rows) })
-
-move-length : {n : ℕ} {ws : List ℕ} → Rows moveForm n ws → length ws ≡ moveWords * n
-move-length no-rows = refl
-move-length (row-first {vs = vs} {ws = ws} v r) = omega (arith, length-append vs ws, ruled-length v, move-length r)
-
-face-length : {n : ℕ} {ws : List ℕ} → Rows faceForm n ws → length ws ≡ newFaceWords * n
-face-length no-rows = refl
-face-length (row-first {vs = vs} {ws = ws} v r) = omega (arith, length-append vs ws, ruled-length v, face-length r)
+rows-length : (form : Form) {n : ℕ} {ws : List ℕ} → Rows form n ws → length ws ≡ length (form .rules) * n
+rows-length form no-items = omega arith
+rows-length form (item-first {n = n} {vs = vs} {ws = ws} v r) =
+    omega (arith, length-append vs ws, ruled-length v, rows-length form r, mul-suc (length (form .rules)) n)
 
 -- each move names one of three corners
 corner-small : (n : ℕ) (ws : List ℕ) → Rows moveForm n ws → (i : ℕ) → i < n → getD ws (1 + moveWords * i) 0 ≤ 2
 corner-small zero ws r i h = absurd (omega arith)
-corner-small (suc n) ws (row-first (one {v = face} a (one {v = corner} b none)) r) zero h = b
-corner-small (suc n) ws (row-first {ws = more} (one {v = face} a (one {v = corner} b none)) r) (suc i) h =
+corner-small (suc n) ws (item-first (one {v = face} a (one {v = corner} b none)) r) zero h = b
+corner-small (suc n) ws (item-first {ws = more} (one {v = face} a (one {v = corner} b none)) r) (suc i) h =
     let at : 1 + moveWords * suc i ≡ suc (suc (1 + moveWords * i)) = omega arith in
     rw at (corner-small n more r i (omega arith))
 
@@ -131,10 +142,10 @@ shaped : (vs ms fs : List ℕ) (m n : ℕ) → Four vs → m ≤ mostMoves → n
 shaped vs ms fs m n (four a b c d) few few′ moves faces = record {
   moves = few;
   faces = few′;
-  long = omega (arith, length-append ms fs, move-length moves, face-length faces);
+  long = omega (arith, length-append ms fs, rows-length moveForm moves, rows-length faceForm faces);
   corners = λ i h.
       let at : stepWords + 1 + moveWords * i ≡ suc (suc (suc (suc (suc (suc (1 + moveWords * i)))))) = omega arith in
-      let inside : 1 + moveWords * i < length ms = omega (arith, move-length moves) in
+      let inside : 1 + moveWords * i < length ms = omega (arith, rows-length moveForm moves) in
       rw (at, List·getD-append ms fs 0 (1 + moveWords * i) inside) (corner-small m ms moves i h);
 }
 
@@ -148,7 +159,7 @@ step-shaped line text r e =
     let fs = rows-taken faceForm mostNewFaces (moves .0 .line) (moves .0 .rest) (faces .0) (faces .1) in
     rw (← same-done (faces .2))
     (shaped (split .0 .values) (moves .0 .words) (faces .0 .words) (moves .0 .count) (faces .0 .count)
-    (split-four (split .0 .values) (row-ruled splitForm line text (split .0) (split .1))) (ms .few) (fs .few) (ms .rows) (fs .rows))
+    (split-four (split .0 .values) (row-ruled splitForm line text (split .0) (split .1))) (ms .few) (fs .few) (ms .items) (fs .items))
 
 -- such words in a table are a formed step, and the next one is after them
 module _ (t before w rest : List ℕ) (is : t ≡ before ++ (w ++ rest)) (s : Shaped w) where
@@ -197,43 +208,17 @@ offset-next t before w rest k is s at = rw at (next-at t before w rest is s ∙ 
 
 -- ---- the steps
 
--- steps one after the other
-data Steps : ℕ → List ℕ → Type 0 where
-  no-steps : Steps 0 []
-  step-first : {n : ℕ} {w ws : List ℕ} → Shaped w → Steps n ws → Steps (suc n) (w ++ ws)
-
-record StepsTaken (left : ℕ) (r : Taken) : Type 0 where
-  few : r .count ≤ left
-  steps : Steps (r .count) (r .words)
-
-steps-taken : (left line : ℕ) (text : List ℕ) (r : Taken) → stepsFrom left line text ≡ done r → StepsTaken left r
-unfolding stepsFrom
-steps-taken zero line text r e =
-    let kept = passed (startsWith (splitForm .word) text) badSteps line _ r e in
-    rw (← same-done (kept .1)) (record { few = omega arith; steps = no-steps })
-steps-taken (suc left) line text r e = go (startsWith (splitForm .word) text) e (steps-taken left)
-  where
-    go : (b : Bool) → pick (not b) (done (record { count = 0; words = []; line = line; rest = text }))
-        (onDone (stepFrom line text) λ step.
-        onDone (stepsFrom left (step .line) (step .rest)) λ more.
-        done (record { count = suc (more .count); words = step .words ++ more .words; line = more .line; rest = more .rest })) ≡ done r
-        → ((line : ℕ) (text : List ℕ) (r : Taken) → stepsFrom left line text ≡ done r → StepsTaken left r)
-        → StepsTaken (suc left) r
-    go false h ih = rw (← same-done h) (record { few = omega arith; steps = no-steps })
-    go true h ih =
-        let step = value-before (stepFrom line text) _ r h in
-        let more = value-before (stepsFrom left (step .0 .line) (step .0 .rest)) _ r (step .2) in
-        let rest = ih (step .0 .line) (step .0 .rest) (more .0) (more .1) in
-        rw (← same-done (more .2)) (record { few = omega (arith, rest .few); steps = step-first (step-shaped line text (step .0) (step .1)) (rest .steps) })
+abbrev Steps : ℕ → List ℕ → Type 0
+Steps = Items Shaped
 
 -- steps that end a table are formed, and the last one ends where the table does
 steps-formed : (t : List ℕ) (n : ℕ) (before ws : List ℕ) (k : ℕ) → Steps n ws → t ≡ before ++ ws → stepOffset t k ≡ length before
     → ((i : ℕ) → i < n → stepFormedAt t (k + i) ≡ true) × (stepOffset t (k + n) ≡ length t)
-steps-formed t zero before ws k no-steps is at =
+steps-formed t zero before ws k no-items is at =
     let none : k + 0 ≡ k = omega arith in
     let long : length t ≡ length before + 0 = ap length is ∙ length-append before [] in
     (λ i h. absurd (omega arith), rw none (omega (arith, at, long)))
-steps-formed t (suc n) before ws k (step-first {w = w} {ws = more} s rest) is at =
+steps-formed t (suc n) before ws k (item-first {vs = w} {ws = more} s rest) is at =
     let again : t ≡ (before ++ w) ++ more = is ∙ sym (append-assoc before w more) in
     let later = steps-formed t n (before ++ w) more (suc k) rest again (offset-next t before w more k is s at) in
     let first : stepFormedAt t k ≡ true = rw at (formed-there t before w more is s) in
@@ -272,7 +257,7 @@ text-formed text words e =
     let steps = value-before (stepsFrom mostSteps 2 (first .0 .rest)) _ words (first .2) in
     let last = value-before (rowFrom (endForm (steps .0 .count)) (steps .0 .line) (steps .0 .rest)) _ words (steps .2) in
     let ended = passed (not (isEmpty (last .0 .rest))) badSteps (suc (steps .0 .line)) _ words (last .2) in
-    let taken = steps-taken mostSteps 2 (first .0 .rest) (steps .0) (steps .1) in
+    let taken = items-taken Shaped (splitForm .word) stepFrom step-shaped mostSteps 2 (first .0 .rest) (steps .0) (steps .1) in
     rw (← same-done (ended .1))
     (words-formed (first .0 .values) (steps .0 .words) (steps .0 .count)
-    (head-ruled (first .0 .values) (row-ruled headForm 1 text (first .0) (first .1))) (taken .few) (taken .steps))
+    (head-ruled (first .0 .values) (row-ruled headForm 1 text (first .0) (first .1))) (taken .few) (taken .items))

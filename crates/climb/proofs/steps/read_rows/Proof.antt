@@ -9,10 +9,10 @@ use borrow.Author.Tests.{not-false, not-true}
 use denote.Ref.{now}
 use lib.ListN.{drop, length}
 use lib.Seq.{length-sets}
-use Rattle.climb.specs.Climb.{rowsFrom}
+use Rattle.climb.specs.Climb.{rowTaken, rowsFrom}
 use Rattle.climb.specs.Inside.{formOf, stored}
 use Rattle.climb.proofs.Lines.{row-refused, row-told, rules-length}
-use Rattle.climb.proofs.Rows.{rows-bad, rows-more, rows-none, rows-over}
+use Rattle.climb.proofs.Rows.{items-bad, items-more, items-none, items-over, row-taken}
 use Rattle.climb.proofs.steps.read_rows.Statement.{statement}
 use Rattle.climb.proofs.steps.read_rows.Tie as tie
 
@@ -39,7 +39,7 @@ returns c =
     let l = c .before .before .before .loop in
     let a = c .before .before .before .before .before .before .before .before .args in
     let e = sym (c .before .starts-with .ensures) ∙ not-true _ (c .if1 .taken) in
-    (sym (l .inv .5 ∙ rows-none (formOf (now (a .word)) (now (a .rules)) (a .width)) (now (a .text)) (a .most) (l .count) (l .table) (l .to) (l .line) (l .at) e), omega arith)
+    (sym (l .inv .5 ∙ items-none (now (a .word)) (rowTaken (formOf (now (a .word)) (now (a .rules)) (a .width))) (now (a .text)) (a .most) (l .count) (l .table) (l .to) (l .line) (l .at) e), omega arith)
 
 read-row-requires : tie.Need-read-row-requires Inv-loop μ-loop
 read-row-requires c κs = search needs
@@ -60,7 +60,7 @@ returns-2 c =
     let r = c .before .before .before .before .read-row in
     let e = sym (c .before .before .before .before .before .before .before .starts-with .ensures) ∙ not-false _ (c .before .before .before .before .before .before .if1 .left) in
     let f = row-refused (now (a .text)) (formOf (now (a .word)) (now (a .rules)) (a .width)) (l .line) (l .at) (l .to) (l .table) _ (r .result) (r .ensures .0 (l .line)) (c .enum-told .given .1) in
-    (sym (l .inv .5 ∙ rows-bad (formOf (now (a .word)) (now (a .rules)) (a .width)) (now (a .text)) (a .most) (l .count) (l .table) (l .to) (l .line) (l .at) e (c .before .before .before .before .before .before .before .before .loop-test .taken) f), tt)
+    (sym (l .inv .5 ∙ items-bad (now (a .word)) (rowTaken (formOf (now (a .word)) (now (a .rules)) (a .width))) (now (a .text)) (a .most) (l .count) (l .table) (l .to) (l .line) (l .at) e (l .line) (c .before .before .before .before .before .before .before .before .loop-test .taken) (rw f)), tt)
 
 add-line : tie.Need-add-line Inv-loop μ-loop
 add-line c = search needs
@@ -87,7 +87,7 @@ loop-again c =
       omega arith,
       omega arith,
       ap length (f .stored-values) ∙ simp length-sets (l .inv .4),
-      l .inv .5 ∙ rows-more (formOf (now (a .word)) (now (a .rules)) (a .width)) (now (a .text)) (a .most) (l .count) (l .table) (l .to) (l .line) (l .at) e _ (a .width) _ (c .before .before .before .before .before .before .before .before .before .loop-test .taken) (rules-length (now (a .rules)) 0 (a .width)) f,
+      l .inv .5 ∙ items-more (now (a .word)) (rowTaken (formOf (now (a .word)) (now (a .rules)) (a .width))) (now (a .text)) (a .most) (l .count) (l .table) (l .to) (l .line) (l .at) e 1 _ _ (c .before .before .before .before .before .before .before .before .before .loop-test .taken) (row-taken (a .width) (rules-length (now (a .rules)) 0 (a .width)) f),
     )
 
 starts-with-requires-2 : tie.Need-starts-with-requires-2 Inv-loop μ-loop
@@ -101,7 +101,7 @@ returns-3 c =
     let l = c .before .before .before .loop in
     let a = c .before .before .before .before .before .before .before .before .args in
     let e = sym (c .before .starts-with2 .ensures) ∙ c .if2 .taken in
-    (sym (l .inv .5 ∙ rows-over (formOf (now (a .word)) (now (a .rules)) (a .width)) (now (a .text)) (a .most) (l .count) (l .table) (l .to) (l .line) (l .at) e (c .before .before .loop-test .left)), tt)
+    (sym (l .inv .5 ∙ items-over (now (a .word)) (rowTaken (formOf (now (a .word)) (now (a .rules)) (a .width))) (now (a .text)) (a .most) (l .count) (l .table) (l .to) (l .line) (l .at) e (c .before .before .loop-test .left)), tt)
 
 same-length-4 : tie.Need-same-length-4 Inv-loop μ-loop
 same-length-4 c = c .before .before .before .loop .inv .4
@@ -111,7 +111,7 @@ returns-4 c =
     let l = c .before .before .before .loop in
     let a = c .before .before .before .before .before .before .before .before .args in
     let e = sym (c .before .starts-with2 .ensures) ∙ c .if2 .left in
-    (sym (l .inv .5 ∙ rows-none (formOf (now (a .word)) (now (a .rules)) (a .width)) (now (a .text)) (a .most) (l .count) (l .table) (l .to) (l .line) (l .at) e), omega arith)
+    (sym (l .inv .5 ∙ items-none (now (a .word)) (rowTaken (formOf (now (a .word)) (now (a .rules)) (a .width))) (now (a .text)) (a .most) (l .count) (l .table) (l .to) (l .line) (l .at) e), omega arith)
 
 pub read-rows-spec : {M : Type 1} → statement M
 read-rows-spec =

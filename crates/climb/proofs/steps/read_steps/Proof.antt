@@ -9,9 +9,9 @@ use borrow.Author.Tests.{not-false, not-true}
 use denote.Ref.{now}
 use lib.ListN.{drop, length}
 use lib.Seq.{length-sets}
-use Rattle.climb.specs.Climb.{stepFrom, stepsFrom}
+use Rattle.climb.specs.Climb.{splitForm, stepFrom, stepsFrom}
 use Rattle.climb.specs.Inside.{stored}
-use Rattle.climb.proofs.Rows.{steps-bad, steps-more, steps-none, steps-over, taken-refused, taken-told}
+use Rattle.climb.proofs.Rows.{items-bad, items-more, items-none, items-over, taken-refused, taken-told}
 use Rattle.climb.proofs.steps.read_steps.Statement.{statement}
 use Rattle.climb.proofs.steps.read_steps.Tie as tie
 
@@ -40,7 +40,7 @@ returns c =
     let l = c .before .before .before .before .loop in
     let a = c .before .before .before .before .before .before .before .args in
     let e = sym (c .before .starts-with .ensures) ∙ not-true _ (c .if1 .taken) in
-    (sym (l .inv .5 ∙ steps-none (now (a .text)) (a .most) (l .count) (l .table) (l .to) (l .line) (l .at) e), (l .inv .1, omega (arith, c .before .before .before .before .before .before .before .pre), omega (arith, c .before .before .before .before .before .before .before .pre)))
+    (sym (l .inv .5 ∙ items-none (splitForm .word) stepFrom (now (a .text)) (a .most) (l .count) (l .table) (l .to) (l .line) (l .at) e), (l .inv .1, omega (arith, c .before .before .before .before .before .before .before .pre), omega (arith, c .before .before .before .before .before .before .before .pre)))
 
 read-step-requires : tie.Need-read-step-requires Inv-loop μ-loop
 read-step-requires c κs = (c .before .before .before .before .before .loop .inv .1, omega (arith, c .before .before .before .before .before .before .before .before .pre), omega (arith, c .before .before .before .before .before .before .before .before .pre))
@@ -58,7 +58,7 @@ returns-2 c =
     let r = c .before .before .before .before .before .read-step in
     let e = sym (c .before .before .before .before .before .before .before .before .starts-with .ensures) ∙ not-false _ (c .before .before .before .before .before .before .before .if1 .left) in
     let f = taken-refused (now (a .text)) (stepFrom (l .line) (drop (l .at) (now (a .text)))) (l .table) (l .to) _ (r .result) (r .ensures .0) _ (c .before .bad .given .1) in
-    (sym (l .inv .5 ∙ steps-bad (now (a .text)) (a .most) (l .count) (l .table) (l .to) (l .line) (l .at) e _ (c .before .before .before .before .before .before .before .before .before .before .loop-test .taken) f), tt)
+    (sym (l .inv .5 ∙ items-bad (splitForm .word) stepFrom (now (a .text)) (a .most) (l .count) (l .table) (l .to) (l .line) (l .at) e _ (c .before .before .before .before .before .before .before .before .before .before .loop-test .taken) f), tt)
 
 enum-known-next : tie.Need-enum-known-next Inv-loop μ-loop
 enum-known-next c = search needs
@@ -82,7 +82,7 @@ loop-again c =
       omega (arith, w .1),
       omega (arith, w .2),
       ap length (f .stored-words) ∙ simp length-sets (l .inv .4),
-      l .inv .5 ∙ steps-more (now (a .text)) (a .most) (l .count) (l .table) (l .to) (l .line) (l .at) e _ _ _ (c .before .before .before .before .before .before .before .before .before .before .loop-test .taken) f,
+      l .inv .5 ∙ items-more (splitForm .word) stepFrom (now (a .text)) (a .most) (l .count) (l .table) (l .to) (l .line) (l .at) e _ _ _ (c .before .before .before .before .before .before .before .before .before .before .loop-test .taken) f,
     )
 
 slice-aggregate-starts-with-2 : tie.Need-slice-aggregate-starts-with-2 Inv-loop μ-loop
@@ -99,7 +99,7 @@ returns-3 c =
     let l = c .before .before .before .before .loop in
     let a = c .before .before .before .before .before .before .before .args in
     let e = sym (c .before .starts-with2 .ensures) ∙ c .if2 .taken in
-    (sym (l .inv .5 ∙ steps-over (now (a .text)) (a .most) (l .count) (l .table) (l .to) (l .line) (l .at) e (c .before .before .before .loop-test .left)), tt)
+    (sym (l .inv .5 ∙ items-over (splitForm .word) stepFrom (now (a .text)) (a .most) (l .count) (l .table) (l .to) (l .line) (l .at) e (c .before .before .before .loop-test .left)), tt)
 
 same-length-4 : tie.Need-same-length-4 Inv-loop μ-loop
 same-length-4 c = c .before .before .before .before .loop .inv .4
@@ -109,7 +109,7 @@ returns-4 c =
     let l = c .before .before .before .before .loop in
     let a = c .before .before .before .before .before .before .before .args in
     let e = sym (c .before .starts-with2 .ensures) ∙ c .if2 .left in
-    (sym (l .inv .5 ∙ steps-none (now (a .text)) (a .most) (l .count) (l .table) (l .to) (l .line) (l .at) e), (l .inv .1, omega (arith, c .before .before .before .before .before .before .before .pre), omega (arith, c .before .before .before .before .before .before .before .pre)))
+    (sym (l .inv .5 ∙ items-none (splitForm .word) stepFrom (now (a .text)) (a .most) (l .count) (l .table) (l .to) (l .line) (l .at) e), (l .inv .1, omega (arith, c .before .before .before .before .before .before .before .pre), omega (arith, c .before .before .before .before .before .before .before .pre)))
 
 pub read-steps-spec : {M : Type 1} → statement M
 read-steps-spec =
