@@ -7,7 +7,7 @@ use Rattle.fields.specs.Name.{same}
 use Rattle.text.specs.Digits.{digitsOf}
 use Rattle.climb.specs.Digits.{areDigits, isDecimal, isPattern, valueAfter}
 use Rattle.climb.specs.Lines.{fieldOf, fieldsAfter, has, lineFeed, past, rowFrom, tab, until}
-use Rattle.climb.specs.Climb.{climbOf, endForm, faceForm, headForm, moveForm, rowsFrom, splitForm, stepFrom, stepsFrom}
+use Rattle.climb.specs.Climb.{climbOf, endForm, faceForm, headForm, itemsFrom, moveForm, splitForm, stepFrom}
 use Rattle.worked_examples.specs.Row.{exampleList}
 
 -- a line of the text: a word, and each number after a tab
@@ -31,5 +31,5 @@ text =
     ++ line (endForm 1 .word) (digit 1 ∷ [])
 
 example-read : climbOf text ≡ done exampleList
-unfolding text line digit bits digitsOf climbOf rowFrom rowsFrom stepFrom stepsFrom fieldsAfter fieldOf isDecimal isPattern areDigits valueAfter until past has same
+unfolding text line digit bits digitsOf climbOf rowFrom itemsFrom stepFrom fieldsAfter fieldOf isDecimal isPattern areDigits valueAfter until past has same
 example-read = refl

@@ -167,16 +167,16 @@ struct Row {
     name: &'static str,
     bytes: usize,
     independent: Times,
-    library: Times,
+    proved: Times,
 }
 
 fn run_job((name, context): (&'static str, Context)) -> Row {
     let numbers = numbers_of(context);
-    let (mut independent, mut library) = (Times::new(), Times::new());
+    let (mut independent, mut proved) = (Times::new(), Times::new());
     let mut bytes = 0;
     for _ in 0..ROUNDS {
         let due = independent.run(&Independent, context, &numbers);
-        let given = library.run(&Library, context, &numbers);
+        let given = proved.run(&Library, context, &numbers);
         assert!(due == given, "the two disagree in the bytes written");
         bytes = given.len();
     }
@@ -184,7 +184,7 @@ fn run_job((name, context): (&'static str, Context)) -> Row {
         name,
         bytes,
         independent,
-        library,
+        proved,
     }
 }
 
@@ -198,7 +198,7 @@ fn print_ways(title: &str, rows: &[Row], way: fn(&Times) -> &Best) {
     ];
     print_heading(title, &columns);
     for row in rows {
-        let (due, given) = (way(&row.independent).seconds(), way(&row.library).seconds());
+        let (due, given) = (way(&row.independent).seconds(), way(&row.proved).seconds());
         let millions = |seconds: f64| format!("{:.1}", NUMBERS as f64 / MILLION / seconds);
         print_row(&[
             row.name.to_string(),
