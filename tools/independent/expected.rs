@@ -1,18 +1,14 @@
 //! What each exported function should do, by the independent program: the same parameters and answers as the library's.
 
+use crate::{
+    COUNT_WORDS, DECLARATION_RESULT_WORDS, MESH_RESULT_WORDS, READER_WORDS, RESULT_WORDS,
+    WRITER_WORDS,
+};
 use independent::coder::{fresh_histogram, Histogram, State, Writer};
-use independent::refusal::Refusal;
+use independent::refusal::{Refusal, ROOM};
 use independent::steps::Counts;
 use independent::{blocks, climb, mesh, steps};
 
-const NO_ROOM: u32 = 12;
-/// Words of the results, of a mesh's, and of a declaration's.
-const RESULT: usize = 2;
-const MESH_RESULT: usize = 9;
-const DECLARATION_RESULT: usize = 4;
-const READER_STATE: usize = 4;
-const WRITER_STATE: usize = 5;
-const COUNTS: usize = 2;
 /// A declaration starts with its name's U16 length.
 const NAME_AT: u64 = 2;
 
@@ -22,36 +18,36 @@ fn told(given: Result<usize, Refusal>, result: &mut [u64]) -> u32 {
         Ok(word) => (0, 0, word),
         Err(refusal) => (refusal.number, refusal.place, 0),
     };
-    result[..RESULT].copy_from_slice(&[place as u64, word as u64]);
+    result[..RESULT_WORDS].copy_from_slice(&[place as u64, word as u64]);
     number
 }
 
 pub fn walk(file: &[u8], rows: &mut [u32], result: &mut [u64]) -> u32 {
-    if result.len() < RESULT {
-        return NO_ROOM;
+    if result.len() < RESULT_WORDS {
+        return ROOM;
     }
     told(blocks::walk(file, rows), result)
 }
 
 pub fn listing(file: &[u8], text: &mut [u8], result: &mut [u64]) -> u32 {
-    if result.len() < RESULT {
-        return NO_ROOM;
+    if result.len() < RESULT_WORDS {
+        return ROOM;
     }
     told(blocks::listing(file, text), result)
 }
 
 pub fn read_climb(text: &[u8], table: &mut [u32], result: &mut [u64]) -> u32 {
-    if result.len() < RESULT {
-        return NO_ROOM;
+    if result.len() < RESULT_WORDS {
+        return ROOM;
     }
     told(climb::read(text, table), result)
 }
 
 pub fn declaration(data: &[u8], fields: &mut [u32], result: &mut [u64]) -> u32 {
-    if result.len() < DECLARATION_RESULT {
-        return NO_ROOM;
+    if result.len() < DECLARATION_RESULT_WORDS {
+        return ROOM;
     }
-    result[..DECLARATION_RESULT].fill(0);
+    result[..DECLARATION_RESULT_WORDS].fill(0);
     let read = match mesh::declaration(data) {
         Ok(read) => read,
         Err(refusal) => {
@@ -60,7 +56,7 @@ pub fn declaration(data: &[u8], fields: &mut [u32], result: &mut [u64]) -> u32 {
         }
     };
     let Some(room) = fields.get_mut(..read.fields.len()) else {
-        return NO_ROOM;
+        return ROOM;
     };
     room.copy_from_slice(&read.fields);
     result[1] = read.fields.len() as u64;
@@ -70,8 +66,8 @@ pub fn declaration(data: &[u8], fields: &mut [u32], result: &mut [u64]) -> u32 {
 }
 
 pub fn read_mesh(decl: &[u8], cont: &[u8], tables: [&mut [u32]; 6], result: &mut [u64]) -> u32 {
-    if result.len() < MESH_RESULT {
-        return NO_ROOM;
+    if result.len() < MESH_RESULT_WORDS {
+        return ROOM;
     }
     let [faces, positions, normals, diffuse, specular, texture] = tables;
     let mut tables = mesh::Tables {
@@ -82,7 +78,7 @@ pub fn read_mesh(decl: &[u8], cont: &[u8], tables: [&mut [u32]; 6], result: &mut
         specular,
         texture,
     };
-    result[..MESH_RESULT].fill(0);
+    result[..MESH_RESULT_WORDS].fill(0);
     match mesh::read(decl, cont, &mut tables) {
         Ok(c) => {
             let counts = [
@@ -94,11 +90,11 @@ pub fn read_mesh(decl: &[u8], cont: &[u8], tables: [&mut [u32]; 6], result: &mut
                 c.texture,
                 c.shadings,
             ];
-            result[RESULT..MESH_RESULT].copy_from_slice(&counts.map(u64::from));
+            result[RESULT_WORDS..MESH_RESULT_WORDS].copy_from_slice(&counts.map(u64::from));
             0
         }
         Err((part, refusal)) => {
-            result[..RESULT].copy_from_slice(&[refusal.place as u64, u64::from(part)]);
+            result[..RESULT_WORDS].copy_from_slice(&[refusal.place as u64, u64::from(part)]);
             refusal.number
         }
     }
@@ -114,32 +110,32 @@ fn state_in(words: &[u64]) -> State {
 }
 
 fn state_out(state: &State, words: &mut [u64]) {
-    words[..READER_STATE].copy_from_slice(&[state.low, state.high, state.pending, state.settled]);
+    words[..READER_WORDS].copy_from_slice(&[state.low, state.high, state.pending, state.settled]);
 }
 
 fn writer_in(words: &[u64]) -> Writer {
     Writer {
         state: state_in(words),
-        compressed: words[READER_STATE],
+        compressed: words[READER_WORDS],
     }
 }
 
 fn writer_out(writer: &Writer, words: &mut [u64]) {
     state_out(&writer.state, words);
-    words[READER_STATE] = writer.compressed;
+    words[READER_WORDS] = writer.compressed;
 }
 
 pub fn writer_fresh(state: &mut [u64]) -> u32 {
-    if state.len() < WRITER_STATE {
-        return NO_ROOM;
+    if state.len() < WRITER_WORDS {
+        return ROOM;
     }
     writer_out(&Writer::fresh(), state);
     0
 }
 
 pub fn reader_fresh(state: &mut [u64]) -> u32 {
-    if state.len() < READER_STATE {
-        return NO_ROOM;
+    if state.len() < READER_WORDS {
+        return ROOM;
     }
     state_out(&State::fresh(), state);
     0
@@ -148,7 +144,7 @@ pub fn reader_fresh(state: &mut [u64]) -> u32 {
 pub fn histogram_fresh(histogram: &mut [u32]) -> u32 {
     let fresh = fresh_histogram();
     let Some(room) = histogram.get_mut(..fresh.len()) else {
-        return NO_ROOM;
+        return ROOM;
     };
     room.copy_from_slice(&fresh);
     0
@@ -159,8 +155,8 @@ fn with_writer<T>(
     state: &mut [u64],
     call: impl FnOnce(&mut Writer) -> Result<T, u32>,
 ) -> Result<T, u32> {
-    if state.len() < WRITER_STATE {
-        return Err(NO_ROOM);
+    if state.len() < WRITER_WORDS {
+        return Err(ROOM);
     }
     let mut writer = writer_in(state);
     let given = call(&mut writer)?;
@@ -174,12 +170,12 @@ fn with_reader(
     result: &mut [u64],
     call: impl FnOnce(&mut State) -> Result<u32, u32>,
 ) -> u32 {
-    if result.len() < RESULT {
-        return NO_ROOM;
+    if result.len() < RESULT_WORDS {
+        return ROOM;
     }
-    result[..RESULT].fill(0);
-    if state.len() < READER_STATE {
-        return NO_ROOM;
+    result[..RESULT_WORDS].fill(0);
+    if state.len() < READER_WORDS {
+        return ROOM;
     }
     let mut reader = state_in(state);
     match call(&mut reader) {
@@ -201,7 +197,7 @@ fn with_histogram<T>(
     words: &mut [u32],
     call: impl FnOnce(&mut Histogram) -> Result<T, u32>,
 ) -> Result<T, u32> {
-    let mut histogram: Histogram = *words.first_chunk().ok_or(NO_ROOM)?;
+    let mut histogram: Histogram = *words.first_chunk().ok_or(ROOM)?;
     let given = call(&mut histogram)?;
     words[..histogram.len()].copy_from_slice(&histogram);
     Ok(given)
@@ -233,10 +229,10 @@ pub fn write_plain(state: &mut [u64], buffer: &mut [u8], bytes: u32, value: u32)
 }
 
 pub fn write_end(state: &mut [u64], buffer: &mut [u8], result: &mut [u64]) -> u32 {
-    if result.len() < RESULT {
-        return NO_ROOM;
+    if result.len() < RESULT_WORDS {
+        return ROOM;
     }
-    result[..RESULT].fill(0);
+    result[..RESULT_WORDS].fill(0);
     match with_writer(state, |writer| writer.end(buffer)) {
         Ok(used) => {
             result[1] = used as u64;
@@ -267,15 +263,15 @@ pub fn read_plain(state: &mut [u64], data: &[u8], bytes: u32, result: &mut [u64]
 
 /// Up or down, with counts that are lent as words.
 fn with_counts(counts: &mut [u32], call: impl FnOnce(&mut Counts) -> Result<(), u32>) -> u32 {
-    if counts.len() < COUNTS {
-        return NO_ROOM;
+    if counts.len() < COUNT_WORDS {
+        return ROOM;
     }
     let mut present = Counts {
         positions: counts[0],
         faces: counts[1],
     };
     let number = number_of(call(&mut present));
-    counts[..COUNTS].copy_from_slice(&[present.positions, present.faces]);
+    counts[..COUNT_WORDS].copy_from_slice(&[present.positions, present.faces]);
     number
 }
 

@@ -4,6 +4,15 @@ pub mod expected;
 #[path = "../../include/oysterfold.rs"]
 pub mod library;
 
+/// Words of a result: place and one other; of a declaration's; of a mesh's.
+pub const RESULT_WORDS: usize = 2;
+pub const DECLARATION_RESULT_WORDS: usize = 4;
+pub const MESH_RESULT_WORDS: usize = 9;
+/// Words of a coder's state, and of the present counts.
+pub const READER_WORDS: usize = 4;
+pub const WRITER_WORDS: usize = 5;
+pub const COUNT_WORDS: usize = 2;
+
 /// Reads bytes into a table; the result is place and one other word.
 pub type Reading<T> = fn(&[u8], &mut [T], &mut [u64]) -> u32;
 /// Reads a declaration's and a continuation's data into six tables.

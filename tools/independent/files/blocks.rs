@@ -2,6 +2,7 @@
 
 use super::piece::Piece;
 use crate::random::Random;
+use crate::refusal::{MAX_LEVELS, MAX_NAME};
 
 pub const HEADER: u32 = 0x0044_3355;
 pub const GROUP_NODE: u32 = 0xFFFF_FF21;
@@ -26,8 +27,7 @@ const DATA_SIZE_AT: usize = 4;
 const META_SIZE_AT: usize = 8;
 const HEAD: usize = 12;
 
-pub const LEVELS: usize = 4;
-const LONGEST_NAME: usize = 255;
+const LEVELS: usize = MAX_LEVELS as usize;
 const CHAIN_TYPES: u32 = 3;
 const MOST_DATA: usize = 20;
 const MOST_IN_CHAIN: usize = 4;
@@ -97,7 +97,7 @@ pub fn close_chain(file: &mut Piece, start: usize, meta: &[u8]) {
 /// Names up to the limit, at times above it.
 pub fn random_name(random: &mut Random) -> Vec<u8> {
     let length = match random.below(60) {
-        0 => random.from_to(LONGEST_NAME - 2, LONGEST_NAME + 2),
+        0 => random.from_to(MAX_NAME - 2, MAX_NAME + 2),
         _ => random.below(7),
     };
     (0..length).map(|_| b'a' + random.below(26) as u8).collect()

@@ -2,18 +2,12 @@
 
 use super::damage::other_value;
 use crate::random::Random;
+use crate::refusal::{CORNER, CORNERS, FACE, MAX_MOVES, MAX_RECORDS, POSITION};
 
 pub const LIST_HEAD: usize = 3;
 pub const STEP_HEAD: usize = 6;
 pub const MOVE_NUMBERS: usize = 2;
 pub const NEW_FACE_NUMBERS: usize = 4;
-pub const CORNERS: usize = 3;
-pub const CORNER_NUMBERS: usize = 6;
-pub const FACE_NUMBERS: usize = 1 + CORNERS * CORNER_NUMBERS;
-pub const POSITION_NUMBERS: usize = 3;
-/// Moves, and new faces, of a step.
-pub const MOST_EACH: usize = 64;
-const LARGEST_COUNT: u32 = 0x1_0000;
 /// Where the step count, and in a step the count of moves, stand.
 const STEPS_AT: usize = 2;
 const MOVES_AT: usize = 4;
@@ -38,12 +32,12 @@ pub struct Climb {
 
 /// Records of faces with these corners; the other numbers are not 0.
 fn face_records(random: &mut Random, corners: &[[u32; CORNERS]]) -> Vec<u32> {
-    let mut records = Vec::with_capacity(corners.len() * FACE_NUMBERS);
+    let mut records = Vec::with_capacity(corners.len() * FACE);
     for face in corners {
         let start = records.len();
-        records.extend((0..FACE_NUMBERS).map(|_| 1 + random.u32_below(9)));
+        records.extend((0..FACE).map(|_| 1 + random.u32_below(9)));
         for (corner, &position) in face.iter().enumerate() {
-            records[start + 1 + corner * CORNER_NUMBERS] = position;
+            records[start + 1 + corner * CORNER] = position;
         }
     }
     records
@@ -105,8 +99,7 @@ impl Maker<'_> {
         let at = self.list.len();
         let number = |random: &mut Random| if random.once_in(4) { 0 } else { random.u32() };
         self.list.push(split);
-        self.list
-            .extend((0..POSITION_NUMBERS).map(|_| number(self.random)));
+        self.list.extend((0..POSITION).map(|_| number(self.random)));
         self.list.extend([0, new_faces]);
         self.list[at + MOVES_AT] = self.put_moves(split, r);
         (0..new_faces).for_each(|_| self.put_new_face(split, r));
@@ -126,7 +119,7 @@ pub fn random_climb(random: &mut Random) -> Climb {
     let face = |_| [0; CORNERS].map(|_: u32| random.u32_below(base_positions));
     let corners: Vec<_> = (0..base_faces).map(face).collect();
     let faces = face_records(random, &corners);
-    let numbers = base_positions as usize * POSITION_NUMBERS;
+    let numbers = base_positions as usize * POSITION;
     let positions = (0..numbers).map(|_| random.u32()).collect();
     let list = vec![base_positions, base_faces as u32, steps];
     let mut maker = Maker {
@@ -168,7 +161,7 @@ impl Ladder {
 
     fn put_step(&self, list: &mut Vec<u32>, random: &mut Random, k: u32) {
         list.push(self.split_of(k));
-        list.extend((0..POSITION_NUMBERS).map(|_| random.u32()));
+        list.extend((0..POSITION).map(|_| random.u32()));
         list.extend([self.each, self.each]);
         (0..self.each).for_each(|face| list.extend([face, face % CORNERS as u32]));
         for _ in 0..self.each {
@@ -181,11 +174,11 @@ impl Ladder {
     }
 
     /// One corner of each face is at position 0.
-    fn face(&self, face: u32) -> [u32; FACE_NUMBERS] {
+    fn face(&self, face: u32) -> [u32; FACE] {
         let others = self.base_positions - 1;
         let mut record = std::array::from_fn(|number| 1 + (face + number as u32) % others);
         record[0] = face % self.shadings;
-        record[1 + face as usize % CORNERS * CORNER_NUMBERS] = 0;
+        record[1 + face as usize % CORNERS * CORNER] = 0;
         record
     }
 
@@ -195,7 +188,7 @@ impl Ladder {
         Climb {
             list,
             shadings: self.shadings,
-            positions: (1..=self.base_positions * POSITION_NUMBERS as u32).collect(),
+            positions: (1..=self.base_positions * POSITION as u32).collect(),
             faces: (0..self.base_faces)
                 .flat_map(|face| self.face(face))
                 .collect(),
@@ -210,14 +203,14 @@ impl Ladder {
 /// How many moves or new faces a step of any list has, at times about the limit.
 fn random_each(random: &mut Random) -> usize {
     match random.below(40) {
-        0 => random.from_to(MOST_EACH - 1, MOST_EACH + 1),
+        0 => random.from_to(MAX_MOVES as usize - 1, MAX_MOVES as usize + 1),
         _ => random.below(4),
     }
 }
 
 fn random_base_count(random: &mut Random) -> u32 {
     match random.below(30) {
-        0 => LARGEST_COUNT + random.u32_below(3) - 1,
+        0 => MAX_RECORDS + random.u32_below(3) - 1,
         _ => random.u32_below(100),
     }
 }
@@ -225,7 +218,7 @@ fn random_base_count(random: &mut Random) -> u32 {
 /// A step of any numbers.
 fn put_any_step(list: &mut Vec<u32>, random: &mut Random) {
     let (moves, faces) = (random_each(random), random_each(random));
-    list.extend((0..1 + POSITION_NUMBERS).map(|_| random.u32() >> random.below(32)));
+    list.extend((0..1 + POSITION).map(|_| random.u32() >> random.below(32)));
     list.extend([moves as u32, faces as u32]);
     for _ in 0..moves {
         list.extend([

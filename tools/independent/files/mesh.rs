@@ -4,6 +4,7 @@ use super::blocks::random_name;
 use super::piece::Piece;
 use crate::coder::{fresh_histogram, Histogram, State, Writer};
 use crate::random::Random;
+use crate::refusal::{ABSENT, CORNER, FACE, MAX_SHADINGS, POSITION, TEXTURE_LAYERS};
 
 /// The tables of a mesh, in the order of their counts.
 pub const TABLES: usize = 6;
@@ -11,16 +12,11 @@ pub const FACES: usize = 0;
 pub const POSITIONS: usize = 1;
 const TEXTURE: usize = 5;
 /// Numbers in a record of each table.
-pub const WIDTHS: [usize; TABLES] = [19, 3, 3, 4, 4, 4];
-/// Fields of a corner: position, normal, diffuse, specular, two layers.
-pub const CORNER_FIELDS: usize = 6;
-pub const ABSENT: u32 = 0xFFFF_FFFF;
+pub const WIDTHS: [usize; TABLES] = [FACE, POSITION, 3, 4, 4, 4];
 
 pub const NO_NORMALS: u32 = 1;
 pub const DIFFUSE_BIT: u32 = 1;
 pub const SPECULAR_BIT: u32 = 2;
-pub const MOST_LAYERS: u32 = 2;
-pub const MOST_SHADINGS: usize = 64;
 /// Above this range a number is coded as a plain U32.
 pub const LARGEST_RANGE: u32 = 0x3FFE;
 const LARGEST_DYNAMIC: u32 = 255;
@@ -216,7 +212,7 @@ impl FaceWriter<'_> {
         self.write_shading(shading, escaped);
         self.coded.records.push(shading);
         for number in 0..WIDTHS[FACES] - 1 {
-            self.write_field(picks, shading, number % CORNER_FIELDS);
+            self.write_field(picks, shading, number % CORNER);
         }
     }
 
@@ -258,12 +254,12 @@ const LARGE_SPREAD: u32 = 6;
 
 fn random_shadings(random: &mut Random) -> Vec<Shading> {
     let count = match random.below(30) {
-        0 => random.below(MOST_SHADINGS + 1),
+        0 => random.below(MAX_SHADINGS + 1),
         _ => random.from_to(1, 3),
     };
     let shading = |_| Shading {
         attributes: random.u32_below(4),
-        layers: random.u32_below(MOST_LAYERS + 1),
+        layers: random.below(TEXTURE_LAYERS + 1) as u32,
     };
     (0..count).map(shading).collect()
 }

@@ -9,9 +9,8 @@ use independent::files::blocks::{append, mend_sizes, random_file};
 use independent::files::damage::{damage, damage_some};
 use independent::files::piece::Piece;
 use independent::random::Random;
-use sides::Side;
+use sides::{Side, RESULT_WORDS};
 
-pub const RESULT_WORDS: usize = 2;
 /// Words that hold the rows of nearly every file made here, and bytes that hold its text.
 const MOST_ROWS: usize = 2_000;
 const MOST_TEXT: usize = 16_000;

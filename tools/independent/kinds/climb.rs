@@ -1,13 +1,12 @@
 //! Climb texts.
 
-use super::blocks::RESULT_WORDS;
 use super::{random_result, random_room};
 use crate::call::{both, Call, Lent};
 use crate::report::{Difference, Part};
 use crate::tally::{Function, Tally};
 use independent::files::climb::{any_list, damage_text, random_climb, text_of};
 use independent::random::Random;
-use sides::Side;
+use sides::{Side, RESULT_WORDS};
 
 #[derive(Clone, PartialEq)]
 pub struct ClimbCall<'a> {

@@ -1,32 +1,18 @@
 //! Single calls of the coder, with any state, histogram and buffer.
 
-use super::blocks::RESULT_WORDS;
 use super::coder_call::{CoderCall, Operation};
 use super::random_result;
-use super::states::{any_reader, random_histogram, random_state, writer_words, WRITER_WORDS};
+use super::states::{any_reader, random_histogram, random_state, writer_words};
 use crate::call::{both, Lent};
 use crate::report::Difference;
 use crate::tally::Tally;
 use independent::coder::SYMBOLS;
 use independent::random::Random;
+use sides::{RESULT_WORDS, WRITER_WORDS};
 
 const ODD_RANGES: [u32; 16] = [
-    0,
-    1,
-    2,
-    3,
-    4,
-    255,
-    256,
-    257,
-    0x1FFF,
-    0x3FFD,
-    0x3FFE,
-    0x3FFF,
-    0x4000,
-    0x10000,
-    1 << 31,
-    u32::MAX,
+    0, 1, 2, 3, 4, 255, 256, 257, 0x1FFF, 0x3FFD, 0x3FFE, 0x3FFF, 0x4000, 0x10000, 0x80000000,
+    0xFFFFFFFF,
 ];
 const LARGEST_RANGE: usize = 0x3FFE;
 const VALUES: u32 = 256;

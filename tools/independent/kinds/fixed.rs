@@ -1,23 +1,25 @@
 //! Cases that are always the same: lengths and counts at their limits.
 
-use super::blocks::{ListingCall, WalkCall, RESULT_WORDS};
+use super::blocks::{ListingCall, WalkCall};
 use super::climb::ClimbCall;
 use super::coder_call::{CoderCall, Operation};
-use super::mesh::{DeclarationCall, MeshCall, DECLARATION_RESULT_WORDS, MESH_RESULT_WORDS};
-use super::states::{READER_WORDS, WRITER_WORDS};
+use super::mesh::{DeclarationCall, MeshCall};
 use super::steps::StepCall;
 use crate::call::{both, Call, Lent};
 use crate::report::Difference;
 use crate::tally::Tally;
 use independent::coder::{fresh_histogram, State, SYMBOLS};
 use independent::files::blocks::large_file;
-use independent::files::climb::{text_of, Ladder, FACE_NUMBERS, MOST_EACH, POSITION_NUMBERS};
+use independent::files::climb::{text_of, Ladder, LIST_HEAD};
 use independent::files::mesh::{self as files, MeshPlan, RandomPicks, Shading, TABLES, WIDTHS};
 use independent::random::Random;
+use independent::refusal::{
+    FACE, MAX_BYTES, MAX_MOVES, MAX_RECORDS, MAX_SHADINGS, MAX_STEPS, POSITION,
+};
+use sides::{
+    DECLARATION_RESULT_WORDS, MESH_RESULT_WORDS, READER_WORDS, RESULT_WORDS, WRITER_WORDS,
+};
 
-const LARGEST: usize = 16 * 1024 * 1024;
-const MOST_RECORDS: u32 = 0x1_0000;
-const MOST_STEPS: u32 = 4096;
 /// Numbers of each table past its records.
 const SPARE: usize = 7;
 const FEW: usize = 64;
@@ -72,9 +74,9 @@ fn walk_and_list(
 }
 
 fn long_files(tally: &mut Tally) -> Result<(), Difference> {
-    let mut file = large_file(LARGEST);
-    walk_and_list(0, &file, LARGEST / 2, tally)?;
-    file.resize(LARGEST, 0);
+    let mut file = large_file(MAX_BYTES);
+    walk_and_list(0, &file, MAX_BYTES / 2, tally)?;
+    file.resize(MAX_BYTES, 0);
     walk_and_list(3, &file, 0, tally)?;
     file.push(0);
     walk_and_list(9, &file, 0, tally)
@@ -98,7 +100,7 @@ fn plan(base: [u32; TABLES], shadings: usize) -> MeshPlan {
 
 fn long_declarations(tally: &mut Tally) -> Result<(), Difference> {
     let mut data = files::declaration(&plan([1; TABLES], 1)).bytes;
-    for (length, number) in [(data.len(), 0), (LARGEST, 17), (LARGEST + 1, 9)] {
+    for (length, number) in [(data.len(), 0), (MAX_BYTES, 17), (MAX_BYTES + 1, 9)] {
         data.resize(length, 0);
         let fields = Lent::patterned(FEW);
         let result = Lent::patterned(DECLARATION_RESULT_WORDS);
@@ -147,9 +149,9 @@ fn mesh_gives(
 
 fn long_meshes(tally: &mut Tally) -> Result<(), Difference> {
     let small = plan([1; TABLES], 1);
-    let over = LARGEST + 1;
-    mesh_gives(0, &small, [0, LARGEST], tally)?;
-    mesh_gives(17, &small, [LARGEST, 0], tally)?;
+    let over = MAX_BYTES + 1;
+    mesh_gives(0, &small, [0, MAX_BYTES], tally)?;
+    mesh_gives(17, &small, [MAX_BYTES, 0], tally)?;
     mesh_gives(9, &small, [over, 0], tally)?;
     mesh_gives(9, &small, [0, over], tally)?;
     mesh_gives(9, &small, [over, over], tally)
@@ -159,10 +161,10 @@ fn long_meshes(tally: &mut Tally) -> Result<(), Difference> {
 fn counts_at_limit(tally: &mut Tally) -> Result<(), Difference> {
     for table in 0..TABLES {
         let mut declared_over = plan([1; TABLES], 1);
-        declared_over.declared[table] = MOST_RECORDS + 1;
+        declared_over.declared[table] = MAX_RECORDS + 1;
         mesh_gives(9, &declared_over, [0, 0], tally)?;
         let mut base_over = plan([0; TABLES], 0);
-        base_over.base[table] = MOST_RECORDS + 1;
+        base_over.base[table] = MAX_RECORDS + 1;
         mesh_gives(9, &base_over, [0, 0], tally)?;
         let mut unlike = plan([1; TABLES], 1);
         unlike.declared[table] = 0;
@@ -173,21 +175,26 @@ fn counts_at_limit(tally: &mut Tally) -> Result<(), Difference> {
 
 /// Static ranges above 0x3FFE, up to the limit.
 fn full_pools(tally: &mut Tally) -> Result<(), Difference> {
-    for count in [0x3FFE, 0x3FFF, MOST_RECORDS] {
+    for count in [0x3FFE, 0x3FFF, MAX_RECORDS] {
         let mut base = [count; TABLES];
         base[files::FACES] = 5;
-        mesh_gives(0, &plan(base, 64), [0, 0], tally)?;
+        mesh_gives(0, &plan(base, MAX_SHADINGS), [0, 0], tally)?;
     }
     Ok(())
 }
 
 fn many_faces(tally: &mut Tally) -> Result<(), Difference> {
-    let mut few_bytes = plan([MOST_RECORDS, 1, 1, 1, 1, 1], 1);
+    let mut few_bytes = plan([MAX_RECORDS, 1, 1, 1, 1, 1], 1);
     mesh_gives(0, &few_bytes, [0, 0], tally)?;
     few_bytes.shadings[0].layers = 0;
     mesh_gives(0, &few_bytes, [0, 0], tally)?;
     // So many that the shadings' weights are halved now and then.
-    mesh_gives(0, &plan([20_000, 7, 5, 3, 2, 4], 64), [0, 0], tally)
+    mesh_gives(
+        0,
+        &plan([20_000, 7, 5, 3, 2, 4], MAX_SHADINGS),
+        [0, 0],
+        tally,
+    )
 }
 
 const WRITES: [Operation; 4] = [
@@ -218,10 +225,18 @@ fn coder_call(operation: Operation, words: usize, low: u64, bytes: usize) -> Cod
 /// Taken at 16 MiB; above it 9, also where 18 would follow; and 12 first of all where state or histogram is too short.
 fn long_buffer(operation: Operation, words: usize, tally: &mut Tally) -> Result<(), Difference> {
     let no_low = 0x1_0000_0000;
-    gives(0, &coder_call(operation, words, 0, LARGEST), tally)?;
-    gives(9, &coder_call(operation, words, no_low, LARGEST + 1), tally)?;
-    gives(12, &coder_call(operation, words - 1, 0, LARGEST + 1), tally)?;
-    let mut short = coder_call(operation, words, 0, LARGEST + 1);
+    gives(0, &coder_call(operation, words, 0, MAX_BYTES), tally)?;
+    gives(
+        9,
+        &coder_call(operation, words, no_low, MAX_BYTES + 1),
+        tally,
+    )?;
+    gives(
+        12,
+        &coder_call(operation, words - 1, 0, MAX_BYTES + 1),
+        tally,
+    )?;
+    let mut short = coder_call(operation, words, 0, MAX_BYTES + 1);
     short.histogram.set_len(SYMBOLS - 1);
     let dynamic = matches!(
         operation,
@@ -259,9 +274,9 @@ fn climb_gives(number: u32, list: &[u32], tally: &mut Tally) -> Result<(), Diffe
 /// The steps' limit and one more; and a text above 16 MiB, which has no limit.
 fn long_climbs(tally: &mut Tally) -> Result<(), Difference> {
     let mut random = Random::of_input(0, 0);
-    for (steps, number) in [(MOST_STEPS, 0), (MOST_STEPS + 1, 13)] {
+    for (steps, number) in [(MAX_STEPS, 0), (MAX_STEPS + 1, 13)] {
         let ladder = Ladder {
-            base_positions: MOST_RECORDS,
+            base_positions: MAX_RECORDS,
             base_faces: 1,
             shadings: 1,
             steps,
@@ -269,27 +284,25 @@ fn long_climbs(tally: &mut Tally) -> Result<(), Difference> {
         };
         climb_gives(number, &ladder.climb(&mut random).list, tally)?;
     }
-    let each = MOST_EACH as u32;
+    let each = MAX_MOVES;
     let largest = Ladder {
-        base_positions: MOST_RECORDS,
+        base_positions: MAX_RECORDS,
         base_faces: each,
         shadings: u32::MAX,
-        steps: MOST_STEPS,
+        steps: MAX_STEPS,
         each,
     };
     let mut list = largest.climb(&mut random).list;
     let long_numbers = |word: &mut u32| *word = if *word > 2 * each { u32::MAX } else { *word };
-    list[independent::files::climb::LIST_HEAD..]
-        .iter_mut()
-        .for_each(long_numbers);
+    list[LIST_HEAD..].iter_mut().for_each(long_numbers);
     climb_gives(0, &list, tally)
 }
 
 /// Up until the faces pass 65,536, then down again to the base.
 fn full_steps(tally: &mut Tally) -> Result<(), Difference> {
     let ladder = Ladder {
-        base_positions: MOST_RECORDS - 4,
-        base_faces: MOST_RECORDS - 8,
+        base_positions: MAX_RECORDS - 4,
+        base_faces: MAX_RECORDS - 8,
         shadings: 2,
         steps: 6,
         each: 4,
@@ -303,10 +316,9 @@ fn full_steps(tally: &mut Tally) -> Result<(), Difference> {
         positions: Lent::of(&climb.positions),
         counts: Lent::of(&[climb.base_positions, climb.base_faces]),
     };
-    call.faces
-        .set_len((MOST_RECORDS as usize + 8) * FACE_NUMBERS);
+    call.faces.set_len((MAX_RECORDS as usize + 8) * FACE);
     call.positions
-        .set_len((MOST_RECORDS as usize + 8) * POSITION_NUMBERS);
+        .set_len((MAX_RECORDS as usize + 8) * POSITION);
     for (up, number) in [
         (true, 0),
         (true, 0),

@@ -10,10 +10,8 @@ use independent::files::mesh::{
 };
 use independent::files::piece::Piece;
 use independent::random::Random;
-use sides::Side;
+use sides::{Side, DECLARATION_RESULT_WORDS, MESH_RESULT_WORDS};
 
-pub const MESH_RESULT_WORDS: usize = 9;
-pub const DECLARATION_RESULT_WORDS: usize = 4;
 /// Fields from chain index to bone count, without those of the shadings.
 const FIELDS: usize = 23;
 

@@ -1,14 +1,13 @@
 //! Runs of coder calls: values written from a fresh state, the end, and the values read back.
 
-use super::blocks::RESULT_WORDS;
 use super::coder::write_operation;
 use super::coder_call::{CoderCall, Operation};
-use super::states::{READER_WORDS, WRITER_WORDS};
 use crate::call::{both, Call, Lent};
 use crate::report::Difference;
 use crate::tally::Tally;
 use independent::coder::SYMBOLS;
 use independent::random::Random;
+use sides::{READER_WORDS, RESULT_WORDS, WRITER_WORDS};
 
 const MOST_CALLS: usize = 24;
 const MOST_BYTES: usize = 160;

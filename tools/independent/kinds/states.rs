@@ -5,8 +5,6 @@ use crate::call::{Lent, Word};
 use independent::coder::{fresh_histogram, SYMBOLS};
 use independent::random::Random;
 
-pub const READER_WORDS: usize = 4;
-pub const WRITER_WORDS: usize = 5;
 /// The place of the pending bits among the words of a state.
 const PENDING: usize = 2;
 const HALF: u64 = 0x8000;

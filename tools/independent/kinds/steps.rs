@@ -3,18 +3,16 @@
 use crate::call::{both, Call, Lent};
 use crate::report::{Difference, Part};
 use crate::tally::{Function, Tally};
-use independent::files::climb::{
-    random_climb, Climb, FACE_NUMBERS, MOVE_NUMBERS, POSITION_NUMBERS,
-};
+use independent::files::climb::{random_climb, Climb, MOVE_NUMBERS};
 use independent::files::damage::other_value;
 use independent::random::Random;
-use sides::Side;
+use independent::refusal::{FACE, POSITION};
+use sides::{Side, COUNT_WORDS};
 
 /// Calls on a mesh.
 const CALLS: usize = 16;
 /// Numbers of a table past all records, at most.
 const SPARE: usize = 24;
-const COUNTS: usize = 2;
 
 #[derive(Clone, PartialEq)]
 pub struct StepCall {
@@ -66,8 +64,8 @@ fn table(random: &mut Random, base: &[u32], all: usize) -> Lent<u32> {
 }
 
 fn first_call(random: &mut Random, climb: &Climb) -> StepCall {
-    let all_positions = (climb.base_positions + climb.steps) as usize * POSITION_NUMBERS;
-    let all_faces = climb.all_faces as usize * FACE_NUMBERS;
+    let all_positions = (climb.base_positions + climb.steps) as usize * POSITION;
+    let all_faces = climb.all_faces as usize * FACE;
     StepCall {
         up: true,
         list: climb.list.clone(),
@@ -106,8 +104,8 @@ fn repeat_pair(random: &mut Random, list: &mut [u32]) {
 fn damage_record(random: &mut Random, call: &mut StepCall) {
     let [positions, faces] = [0, 1].map(|at| call.counts.words()[at] as usize);
     let (table, present, width) = match random.once_in(2) {
-        true => (&mut call.faces, faces, FACE_NUMBERS),
-        false => (&mut call.positions, positions, POSITION_NUMBERS),
+        true => (&mut call.faces, faces, FACE),
+        false => (&mut call.positions, positions, POSITION),
     };
     let record = if call.up {
         present
@@ -141,9 +139,9 @@ fn damage_call(random: &mut Random, call: &mut StepCall) {
         6 => call.shadings = random.u32_below(3),
         7 => damage_word(random, call.faces.lend()),
         8 => damage_word(random, call.positions.lend()),
-        9 => damage_length(random, &mut call.faces, 2 * FACE_NUMBERS),
-        10 => damage_length(random, &mut call.positions, 3 * POSITION_NUMBERS),
-        11 => call.counts.set_len(random.below(2 * COUNTS)),
+        9 => damage_length(random, &mut call.faces, 2 * FACE),
+        10 => damage_length(random, &mut call.positions, 3 * POSITION),
+        11 => call.counts.set_len(random.below(2 * COUNT_WORDS)),
         12 => repeat_pair(random, &mut call.list),
         _ => damage_record(random, call),
     }
@@ -161,7 +159,7 @@ pub fn up_and_down(random: &mut Random, tally: &mut Tally) -> Result<(), Differe
             damage_call(random, &mut call);
         }
         let (_, after) = both(&call, tally)?;
-        if !damaged || (random.once_in(20) && after.counts.words().len() == COUNTS) {
+        if !damaged || (random.once_in(20) && after.counts.words().len() == COUNT_WORDS) {
             present = after;
         }
     }

@@ -2,15 +2,13 @@
 
 use super::{grouped, print_heading, print_row, Best, ROUNDS};
 use independent::coder::{fresh_histogram, Histogram, State, Writer};
-use sides::library;
+use sides::{library, READER_WORDS, RESULT_WORDS, WRITER_WORDS};
 
 const NUMBERS: usize = 200_000;
 /// Bytes; more than the numbers take.
 const BUFFER: usize = 1024 * 1024;
 const FILLED: u8 = 0xFF;
 const U32_BYTES: u32 = 4;
-const READER_WORDS: usize = 4;
-const WRITER_WORDS: usize = 5;
 /// Rates are in millions a second.
 const MILLION: f64 = 1e6;
 
@@ -100,7 +98,7 @@ impl Coder for Independent {
 impl Coder for Library {
     fn write(&self, context: Context, numbers: &[u32], buffer: &mut [u8]) -> (usize, bool) {
         let (mut state, mut histogram) = ([0; WRITER_WORDS], fresh_histogram());
-        let mut result = [0; 2];
+        let mut result = [0; RESULT_WORDS];
         let mut answers =
             library::writer_fresh(&mut state) | library::histogram_fresh(&mut histogram);
         for &number in numbers {
@@ -118,7 +116,7 @@ impl Coder for Library {
 
     fn read(&self, context: Context, data: &[u8], numbers: &mut [u32]) -> bool {
         let (mut state, mut histogram) = ([0; READER_WORDS], fresh_histogram());
-        let mut result = [0; 2];
+        let mut result = [0; RESULT_WORDS];
         let mut answers =
             library::reader_fresh(&mut state) | library::histogram_fresh(&mut histogram);
         for number in numbers {

@@ -13,16 +13,15 @@ use independent::files::mesh::{
     NO_NORMALS, POSITIONS, SPECULAR_BIT, TABLES, WIDTHS,
 };
 use independent::random::Random;
-use sides::{Side, INDEPENDENT, LIBRARY};
+use independent::refusal::CUT;
+use sides::{Side, INDEPENDENT, LIBRARY, MESH_RESULT_WORDS};
 
-const RESULT_WORDS: usize = 9;
 /// Numbers of each table past the base mesh.
 const SPARE: usize = 7;
 /// So many that bits settle past the end: after the last 1 a reader sees zeros, and at first puts all bits off.
 const CUT_BYTES: usize = 1024;
 const MIDDLE: u64 = 0x8000;
 const FILLED: u32 = u32::MAX;
-const CUT: u32 = 1;
 /// Rates are in thousand faces a second.
 const THOUSAND: f64 = 1e3;
 
@@ -281,7 +280,7 @@ fn mesh_of(case: &Case, plan: &MeshPlan, hostile: bool) -> Mesh {
 struct Reader {
     side: Side,
     tables: [Vec<u32>; TABLES],
-    result: [u64; RESULT_WORDS],
+    result: [u64; MESH_RESULT_WORDS],
     best: Best,
 }
 
@@ -291,7 +290,7 @@ impl Reader {
         Reader {
             side,
             tables: std::array::from_fn(table),
-            result: [0; RESULT_WORDS],
+            result: [0; MESH_RESULT_WORDS],
             best: Best::new(),
         }
     }

@@ -4,9 +4,10 @@
 //! first steps are climbed.
 
 use super::{grouped, print_heading, print_row, Best, ROUNDS};
-use independent::files::climb::{Climb, Ladder, FACE_NUMBERS, POSITION_NUMBERS};
+use independent::files::climb::{Climb, Ladder};
 use independent::random::Random;
-use sides::{Side, Step, INDEPENDENT, LIBRARY};
+use independent::refusal::{FACE, MAX_RECORDS, POSITION};
+use sides::{Side, Step, COUNT_WORDS, INDEPENDENT, LIBRARY};
 use std::time::Instant;
 
 /// Steps up, and down again.
@@ -17,7 +18,6 @@ const BASE_POSITIONS: u32 = 100;
 /// At least as many as moves.
 const BASE_FACES: u32 = 64;
 const SHADINGS: u32 = 4;
-const MOST_RECORDS: usize = 65_536;
 const MICROSECOND: f64 = 1e-6;
 
 /// Moves and new faces of each step, and steps.
@@ -27,7 +27,7 @@ struct Climber {
     side: Side,
     faces: Vec<u32>,
     positions: Vec<u32>,
-    counts: [u32; 2],
+    counts: [u32; COUNT_WORDS],
     up: Best,
     down: Best,
 }
@@ -35,7 +35,7 @@ struct Climber {
 /// The base records, then zeros for as many as there may be.
 fn table(base: &[u32], width: usize) -> Vec<u32> {
     let mut table = base.to_vec();
-    table.resize(MOST_RECORDS * width, 0);
+    table.resize(MAX_RECORDS as usize * width, 0);
     table
 }
 
@@ -43,8 +43,8 @@ impl Climber {
     fn new(side: Side, climb: &Climb) -> Climber {
         Climber {
             side,
-            faces: table(&climb.faces, FACE_NUMBERS),
-            positions: table(&climb.positions, POSITION_NUMBERS),
+            faces: table(&climb.faces, FACE),
+            positions: table(&climb.positions, POSITION),
             counts: [climb.base_positions, climb.base_faces],
             up: Best::new(),
             down: Best::new(),

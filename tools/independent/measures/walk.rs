@@ -3,7 +3,7 @@
 use super::{grouped, print_heading, print_row, rate, Best, ROUNDS};
 use independent::blocks::ROW;
 use independent::files::blocks::large_file;
-use sides::{Side, INDEPENDENT, LIBRARY};
+use sides::{Side, INDEPENDENT, LIBRARY, RESULT_WORDS};
 
 const MIB: usize = 1024 * 1024;
 const SIZES: [usize; 5] = [MIB, 2 * MIB, 4 * MIB, 8 * MIB, 16 * MIB];
@@ -16,7 +16,7 @@ const FILLED: u32 = u32::MAX;
 struct Walker {
     side: Side,
     rows: Vec<u32>,
-    result: [u64; 2],
+    result: [u64; RESULT_WORDS],
     best: Best,
 }
 
@@ -26,7 +26,7 @@ impl Walker {
         Walker {
             side,
             rows,
-            result: [u64::MAX; 2],
+            result: [u64::MAX; RESULT_WORDS],
             best: Best::new(),
         }
     }
