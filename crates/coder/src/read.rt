@@ -9,7 +9,7 @@ ghost use Rattle.coder.specs.Forms.{isRun, pendingInverted};
 ghost use Rattle.coder.specs.Inside.{Reading, Stepped, countFault, foundAs, valueNumber};
 ghost use Rattle.coder.specs.Interval.{code, target, WellFormed, largestRange};
 ghost use Rattle.coder.specs.Reading.{readFault, readGiven, taken, takePlain, takeStatic};
-ghost use Rattle.coder.specs.Values.{readPlain, symbolValue};
+ghost use Rattle.coder.specs.Values.{readPlain, readStatic, symbolValue};
 ghost use Rattle.coder.specs.Writing.{bytesIn};
 ghost use lib.Dec.{leb};
 use crate::bits::bit_at;
@@ -225,27 +225,16 @@ impl Coder {
         Read::Got(value, next)
     }
 
-    fn judged_static(self, bytes: &[u8], look: bool, range: u32) -> Read
-        ensures { λ r. ⌜ readGiven r ≡ takeStatic look range (now (bytes .entry)) self ⌝ }
+    // A value in a static range: one symbol, or a plain U32 where the range is too large.
+    fn static_value(self, bytes: &[u8], number: u32, range: u32) -> Found
+        requires { ⌜ Reading self (bitAt (now bytes)) × (number ≡ code self (bitAt (now bytes))) ⌝ }
+        requires { ⌜ (self .settled + self .pending < 2 ^ 33) × (1 ≤ range) ⌝ }
+        ensures { λ r. ⌜ r ≡ readStatic range (bitAt (now (bytes .entry))) self ⌝ }
     {
-        let start = self.start(bytes);
-        if start.fault != 0 {
-            return Read::Refused(start.fault, self);
-        }
-        if !self.looked(bytes, look) {
-            return Read::Refused(BAD_STATE, self);
-        }
-        if range == 0 {
-            return Read::Refused(OUT_OF_RANGE, self);
-        }
         if range <= Coder::LARGEST_RANGE {
-            let value = self.target(start.number, range);
-            let next = self.after(static_span(range, value));
-            return self.accepted(bytes.len(), value, next, value < range);
+            return self.symbol_value(bytes, number, range);
         }
-        let found = self.plain_u32(bytes);
-        let next = found.state;
-        self.accepted(bytes.len(), found.value, next, found.value < range)
+        self.plain_u32(bytes)
     }
 
     fn plain_value(self, bytes: &[u8], width: Width) -> Found
@@ -293,13 +282,40 @@ impl Coder {
     pub fn read_static(self, bytes: &[u8], range: u32) -> Read
         ensures { λ r. ⌜ readGiven r ≡ takeStatic true range (now (bytes .entry)) self ⌝ }
     {
-        self.judged_static(bytes, true, range)
+        let start = self.start(bytes);
+        if start.fault != 0 {
+            return Read::Refused(start.fault, self);
+        }
+        if !self.pending_inverted(bytes) {
+            return Read::Refused(BAD_STATE, self);
+        }
+        if range == 0 {
+            return Read::Refused(OUT_OF_RANGE, self);
+        }
+        let found = self.static_value(bytes, start.number, range);
+        let next = found.state;
+        self.accepted(bytes.len(), found.value, next, found.value < range)
     }
 
-    // The same for a state that the reader made on the same data: its pending bits are not judged again.
+    // The same for a state that the reader made on the same data: its pending bits are not judged again. Runs of numbers spend their time
+    // here, so it shares no function with the reader above that would keep the compiler from putting it into their loop.
     pub fn take_static(self, bytes: &[u8], range: u32) -> Read
         ensures { λ r. ⌜ readGiven r ≡ takeStatic false range (now (bytes .entry)) self ⌝ }
     {
-        self.judged_static(bytes, false, range)
+        let start = self.start(bytes);
+        if start.fault != 0 {
+            return Read::Refused(start.fault, self);
+        }
+        if range == 0 {
+            return Read::Refused(OUT_OF_RANGE, self);
+        }
+        if range <= Coder::LARGEST_RANGE {
+            let value = self.target(start.number, range);
+            let next = self.after(static_span(range, value));
+            return self.accepted(bytes.len(), value, next, value < range);
+        }
+        let found = self.plain_u32(bytes);
+        let next = found.state;
+        self.accepted(bytes.len(), found.value, next, found.value < range)
     }
 }
