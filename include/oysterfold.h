@@ -28,11 +28,11 @@
  * for its length, which counts elements and not bytes; what is lent for writing may not overlap
  * anything else of the same call.
  *
- * `result` takes the place first, then what the call gives back. Shorter than stated, the answer
- * is 12 and nothing is changed. A refusal gives the place and 0 for all else of the result, and
- * changes nothing of the tables, buffers, states and counts. Words past those stated are never
- * touched. The place is the offending field's byte offset, for a climb text the line from 1, and
- * 0 where there is none (12 always).
+ * `result` takes what the call gives back, place first; on a refusal the place and every other
+ * word of it 0 (a refused mesh also tells its part). Shorter than stated, the answer is 12, before
+ * all else, and nothing is changed. Tables, buffers, state and counts arrays change only on answer
+ * 0. Words past those stated are never touched. The place is the offending field's byte offset,
+ * for a climb text the line from 1, and 0 where there is none (12 always).
  */
 #ifndef OYSTERFOLD_H
 #define OYSTERFOLD_H
@@ -74,10 +74,11 @@ uint32_t oysterfold_listing(const uint8_t *file, size_t file_len, uint8_t *text,
                             uint64_t *result, size_t result_len);
 
 /*
- * The U32 fields of a mesh declaration's data in file order, from the chain index to the bone
- * count, shadings as they come. At most 343 of them.
+ * The fields of a mesh declaration's data: U32 fields in file order from chain index to bone
+ * count, shadings as they come, at most 343. All judged as 01 judges a declaration, then 12
+ * (place 0) where fields_len is below the number of fields. Fields past the number are untouched.
  * result: place, number of fields, offset of the name in the data, length of the name.
- * Answers 0, 1, 8, 9, 11, 12 (judged last), 17.
+ * Answers 0, 1, 8, 9, 11, 12, 17.
  */
 uint32_t oysterfold_declaration(const uint8_t *data, size_t data_len, uint32_t *fields,
                                 size_t fields_len, uint64_t *result, size_t result_len);
@@ -100,8 +101,10 @@ uint32_t oysterfold_read_mesh(const uint8_t *decl, size_t decl_len, const uint8_
 
 /*
  * The bit coder (ECMA-363, clause 10.4). A state is low, high, pending, settled, and for a writer
- * a fifth word, 1 where a compressed value was written, else 0. It is handed in and changed only
- * where the answer is 0. A state or histogram that is too short is 12, before all else.
+ * a fifth word, the compressed flag: 1 where a compressed value was written, else 0. It is handed
+ * in, and changed only on answer 0. A state or histogram that is too short is 12, before all else
+ * but a result that is too short. A low or high above 0xFFFFFFFF, or a compressed flag above 1, is
+ * a state that is not well formed: 18.
  */
 
 /* The state at the start of a block. Answers 0, 12. */
@@ -133,7 +136,8 @@ uint32_t oysterfold_write_end(uint64_t *state, size_t state_len, uint8_t *buffer
 
 /*
  * Reads a value back. result: place, value.
- * Answers 0, 9, 18, 10 (range 0, or a width that isn't 1, 2 or 4), 1, 10, judged in this order.
+ * Answers 0, 9, 18, 10 for range 0 or `bytes` other than 1, 2, 4 (nothing is read), 1, then 10 for
+ * a value not below its range or above 255, judged in this order.
  */
 uint32_t oysterfold_read_static(uint64_t *state, size_t state_len, const uint8_t *data,
                                 size_t data_len, uint32_t range, uint64_t *result,
