@@ -1,22 +1,23 @@
--- A plain U32 of 0 always makes a reader find its number: each zero byte shifts low up by seven bits or more, so that low is 0 before the
--- last of the four, and no bit is pending after it.
+-- A plain U32 of 0 always makes a reader find its number, whatever follows it: each zero byte shifts low up by seven bits or more, so that
+-- low is 0 before the last of the four.
 use Prim.Native.Nat.{ℕ, zero, suc, _+_, _*_, _-_, _/_, _%_, _^_, _≤_, _<_}
-use Rattle.coder.proofs.Backward.{all-back}
+use Rattle.coder.proofs.Backward.{all-back, settled-first}
+use Rattle.coder.proofs.Carrying.{carries-append}
 use Rattle.coder.proofs.Judgements.{finds-hold, finds-true}
 use Rattle.coder.proofs.Limits.{after-wellformed, postpone-cases, settle-cases}
-use Rattle.coder.proofs.Sequence.{all-count, byte-codable}
+use Rattle.coder.proofs.Sequence.{byte-codable, symbol-count}
 use Rattle.coder.proofs.SettledBits.{AllBits, all-bits}
 use Rattle.coder.proofs.Spans.{plain-codable}
-use Rattle.coder.proofs.Turns.{postpone-low, settle-more}
+use Rattle.coder.proofs.Streams.{word-below}
 use Rattle.coder.specs.Ending.{endBits, endState, flushBits, flushFound, flushState, lowBits, lowState, placed}
-use Rattle.coder.specs.Interval.{Agrees, Coder, WellFormed, afterSymbol, code, narrow, postpone, postpones, range, settleTop, settleTops}
+use Rattle.coder.specs.Interval.{Agrees, Coder, WellFormed, afterSymbol, code, narrow, postpone, postpones, range, settleTop, settleTops, settledBits, symbolBits, topBits}
 use Rattle.coder.specs.Stream.{Binary, Carries, Stream, word}
 use Rattle.coder.specs.Symbols.{afterSymbols, byteSpan, plainSpans, reversed, symbolsBits}
-use borrow.Author.Tests.{eqb-true}
-use lib.ListN.{List·getD-eq-default, getD, length}
+use borrow.Author.Tests.{eq-eqb, eqb-true}
+use lib.ListN.{getD}
 use lib.Pow.{pow-add, pow-mono}
 use mathlib.Core.Bool.{true, false, not-eq-not}
-use mathlib.Core.List.{List, [], _∷_}
+use mathlib.Core.List.{List, [], _∷_, _++_, append-nil}
 use mathlib.Core.Path.{_≡_, _∙_, ap, refl, sym}
 use native.Mathlib.Decide.{decLt}
 use native.Mathlib.Nat.{add-suc, add-zero, mul-assoc, mul-le-mul, mul-le-mul-right, pow-suc, suc-add}
@@ -105,40 +106,52 @@ byte-gone f g s far w gone =
     let b : GoneBeyond (256 * 2 ^ f) (narrowed s) = λ k. gone-more (narrowed s .low) f k (range (narrowed s)) (omega arith) (rw (n .0) gone) in
     postpone-beyond _ 16 (settleTops 16 (narrowed s)) (settle-beyond _ 16 (narrowed s) b) g (omega arith)
 
--- ---- a low limit of 0 and no pending bits
-
-record Clear (s : Coder) : Type 0 where
-  low : s .low ≡ 0
-  pending : s .pending ≡ 0
-
-settle-clear : (n : ℕ) (s : Coder) → Clear s → Clear (settleTops n s)
-unfolding settleTops
-settle-clear zero s c = c
-settle-clear (suc n) s c = settle-cases Clear n s (λ e. settle-clear n (settleTop s) (omega arith)) (λ e. c)
-
-postpone-clear : (n : ℕ) (s : Coder) → Clear s → Clear (postpones n s)
-postpone-clear n s c = rw (← postpone-low n s (λ e. omega arith)) c
-
--- a zero byte where low is 0: the top bits agree at once
-byte-clear : (s : Coder) → WellFormed s → s .low ≡ 0 → Clear (next s)
-unfolding afterSymbol
-byte-clear s w z =
-    let n = byte-narrows s w in
-    let turn = settle-more 15 (narrowed s) (omega arith) in
-    let c : Clear (settleTops 15 (settleTop (narrowed s))) = settle-clear 15 (settleTop (narrowed s)) (omega arith) in
-    postpone-clear 16 (settleTops 16 (narrowed s)) (rw turn at c)
-
 -- after three zero bytes low is 0
-flush-clear : (s : Coder) → WellFormed s → Clear (afterSymbols s (plainSpans 4 0))
-unfolding afterSymbols plainSpans
-flush-clear s w =
+flush-low : (s : Coder) → WellFormed s → next (next (next s)) .low ≡ 0
+flush-low s w =
     let w1 = next-wellformed s w in
     let w2 = next-wellformed (next s) w1 in
     let w3 = next-wellformed (next (next s)) w2 in
     let g1 : Gone 8 (next s) = byte-gone 14 8 s (omega arith) w (omega arith) in
     let g2 : Gone 1 (next (next s)) = byte-gone 7 1 (next s) (omega arith) w1 g1 in
     let g3 : Gone 0 (next (next (next s))) = byte-gone 0 0 (next (next s)) (omega arith) w2 g2 in
-    byte-clear (next (next (next s))) w3 (omega arith)
+    omega arith
+
+-- ---- whatever follows
+
+-- where low is 0 the first bit of a zero byte is 0, and the number below high
+zero-agrees : (s : Coder) (x : Stream) → Binary x → WellFormed s → s .low ≡ 0 → Carries x (s .settled) (symbolBits s (byteSpan 0)) → Agrees s x
+unfolding symbolBits topBits code narrow
+zero-agrees s x two w z c =
+    let n = byte-narrows s w in
+    let top : narrowed s .low / 0x8000 ≡ narrowed s .high / 0x8000 = omega arith in
+    let bits : Carries x (s .settled) (settledBits (narrowed s) ++ topBits 15 (settleTop (narrowed s))) = rw (eq-eqb _ _ top, topBits) at c in
+    let first = carries-append x (settledBits (narrowed s)) _ (s .settled) bits in
+    let b = settled-first (narrowed s) x (first .0) in
+    let zero : x (s .settled) ≡ 0 = omega (arith, b .0) in
+    let small = word-below x (s .settled + 1 + s .pending) 15 two in
+    record { inverted = b .1; from-low = omega arith; to-high = omega arith }
+
+-- a reader that agrees after a zero byte agrees before it
+byte-back : (s : Coder) (x : Stream) (rest : List ℕ) → Binary x → WellFormed s → Carries x (s .settled) (symbolBits s (byteSpan 0) ++ rest)
+    → (Carries x (next s .settled) rest → Agrees (next s) x) → Agrees s x
+unfolding afterSymbols symbolsBits
+byte-back s x rest two w c f =
+    let parts = carries-append x (symbolBits s (byteSpan 0)) rest (s .settled) c in
+    let own : Carries x (s .settled) (symbolBits s (byteSpan 0) ++ []) = rw (append-nil (symbolBits s (byteSpan 0))) (parts .0) in
+    all-back (byteSpan 0 ∷ []) s x two w (byte-codable 0, tt) own (f (rw (← symbol-count s (byteSpan 0)) at (parts .1))) .1
+
+-- A reader at the state before a plain U32 of 0 agrees with every stream that has it there.
+pub flush-agrees : (s : Coder) (x : Stream) → Binary x → WellFormed s → Carries x (s .settled) (symbolsBits s (plainSpans 4 0)) → Agrees s x
+unfolding symbolsBits plainSpans
+flush-agrees s x two w c =
+    let w1 = next-wellformed s w in
+    let w2 = next-wellformed (next s) w1 in
+    let w3 = next-wellformed (next (next s)) w2 in
+    byte-back s x _ two w c λ c1.
+    byte-back (next s) x _ two w1 c1 λ c2.
+    byte-back (next (next s)) x _ two w2 c2 λ c3.
+    zero-agrees (next (next (next s))) x two w3 (flush-low s w) (rw (append-nil (symbolBits (next (next (next s))) (byteSpan 0))) at c3)
 
 -- ---- what a reader finds
 
@@ -150,11 +163,6 @@ zeros-word x p (suc n) z = omega (arith, zeros-word x p n z, z (p + n) (omega ar
 zeros-code : (s : Coder) (x : Stream) → ((i : ℕ) → s .settled ≤ i → x i ≡ 0) → code s x ≡ 0
 unfolding code
 zeros-code s x z = omega (arith, z (s .settled) (omega arith), zeros-word x (s .settled + 1 + s .pending) 15 (λ i h. z i (omega arith)))
-
-clear-agrees : (s : Coder) (x : Stream) → Clear s → ((i : ℕ) → s .settled ≤ i → x i ≡ 0) → Agrees s x
-clear-agrees s x c z =
-    let e = zeros-code s x z in
-    record { inverted = λ i h. absurd (omega arith); from-low = omega arith; to-high = omega arith }
 
 -- bits stand where they are placed
 carries-placed : (x : Stream) (l : List ℕ) (p : ℕ) → ((i : ℕ) → x (p + i) ≡ getD l i 0) → Carries x p l
@@ -174,12 +182,9 @@ unfolding flushBits placed
 flush-found s w =
     let bits : List ℕ = symbolsBits s (plainSpans 4 0) in
     let y : Stream = placed (s .settled) bits in
-    let t : Coder = afterSymbols s (plainSpans 4 0) in
     let two : Binary y = λ i. bits-at bits (i - s .settled) (all-bits (plainSpans 4 0) s w (plain-codable 4 0)) in
     let c : Carries y (s .settled) bits = carries-placed y bits (s .settled) (λ i. ap (λ (k : ℕ). getD bits k 0) (omega arith)) in
-    let n : t .settled ≡ s .settled + length bits = all-count (plainSpans 4 0) s in
-    let a : Agrees t y = clear-agrees t y (flush-clear s w) (λ i h. List·getD-eq-default bits 0 (omega arith)) in
-    finds-hold s y (all-back (plainSpans 4 0) s y two w (plain-codable 4 0) c a .1)
+    finds-hold s y (flush-agrees s y two w c)
 
 -- ---- without a compressed value: zeros only
 
@@ -189,7 +194,9 @@ zeros-placed s i = refl
 
 -- They are low where low is 0 and no bits are pending.
 pub zeros-found : (s : Coder) → WellFormed s → s .low ≡ 0 → s .pending ≡ 0 → flushFound false s ≡ true
-zeros-found s w l p = finds-hold s _ (clear-agrees s _ (record { low = l; pending = p }) (λ i h. zeros-placed s i))
+zeros-found s w l p =
+    let e = zeros-code s (placed (s .settled) (flushBits false s)) (λ i h. zeros-placed s i) in
+    finds-hold s _ (record { inverted = λ i h. absurd (omega arith); from-low = omega arith; to-high = omega arith })
 
 -- They are below low where it is not 0.
 pub zeros-low : (s : Coder) → (s .low ≡ 0 → ⊥) → flushFound false s ≡ false

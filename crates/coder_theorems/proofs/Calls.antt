@@ -1,26 +1,29 @@
 -- A number that a call wrote is read back by the reader's call in the same context, from any data that continue what the call left: the
 -- reader is pointed to the number's symbols, and passes each test because the writer did.
-use Prim.Native.Nat.{ℕ, _^_, _<_}
+use Prim.Native.Nat.{ℕ, zero, suc, _^_, _≤_, _<_}
 use Rattle.coder.proofs.Backward.{Pointed}
 use Rattle.coder_theorems.proofs.Continuing.{Continues, end-back, symbols-back}
 use Rattle.coder.proofs.Judgements.{Readable, Writable, end-zero, histogram-true, looked-hold, read-hold, write-passed, write-zero}
-use Rattle.coder_theorems.proofs.ReadBack.{dynamic-found, plain-found, static-found}
+use Rattle.coder_theorems.proofs.ReadBack.{dynamic-found, escape-found, plain-found, static-found}
 use Rattle.coder.proofs.Spans.{AllCodable, dynamic-codable, plain-codable, range-codable}
+use Rattle.coder.proofs.Weights.{span-codable, weight-inside}
 use Rattle.coder.specs.Bytes.{bitAt, storeBits}
-use Rattle.coder.specs.Histogram.{Histogram, histogramFormed, values}
-use Rattle.coder.specs.Interval.{Agrees}
+use Rattle.coder.specs.Histogram.{Histogram, WellFormedHistogram, histogramFormed, values}
+use Rattle.coder.specs.Interval.{Agrees, code}
 use Rattle.coder.specs.declared.interval.Coder.{Coder}
 use Rattle.coder.specs.declared.interval.Span.{Span}
 use Rattle.coder.specs.Reading.{readNumber, takeDynamic, takeNumber, takePlain, takeStatic, taken, takenHistogram}
-use Rattle.coder_theorems.specs.Runs.{Context, Histograms, ReadCall, Typed, WriteCall, callRead, callWrite, dynamic, plain, static}
-use Rattle.coder.specs.Symbols.{afterSymbols, dynamicSpans, plainSpans, staticSpans, symbolsBits}
-use Rattle.coder.specs.Writing.{dynamicNumber, end, endNumber, endAs, write, writeDynamic, writeNumber, writePlain, writeStatic, writtenHistogram}
+use Rattle.coder_theorems.specs.Runs.{Context, Histograms, Typed, callEscape, callRead, callWrite, called, dynamic, escapeAfter, escapeSpans, plain, readBack, static}
+use Rattle.coder.specs.Symbols.{afterSymbols, dynamicAfter, dynamicSpans, plainSpans, staticSpans, symbolsBits}
+use Rattle.coder.specs.Writing.{dynamicNumber, end, endNumber, endAs, kept, write, writeDynamic, writeNumber, writePlain, writeStatic, writtenHistogram}
 use Rattle.coder.specs.declared.write.Writer.{Writer}
+use Rattle.fields.specs.Limits.{largestFile}
 use borrow.Author.Tests.{lt-ltb, ltb-true}
 use lib.Dec.{ltb}
 use lib.ListN.{getD, length, take}
+use lib.Seq.{set-getD}
 use mathlib.Core.Bool.{Bool, true, false}
-use mathlib.Core.List.{List, []}
+use mathlib.Core.List.{List, [], _++_}
 use mathlib.Core.Path.{_≡_, refl}
 use native.Mathlib.Omega.{arith}
 
@@ -68,14 +71,10 @@ back d l w contextGood valueGood compresses spans codable e h =
 
 -- ---- the same call of the reader
 
--- what it has to give back
-abbrev pub given : ℕ → WriteCall → ReadCall
-given v c = record { result = record { number = 0; done = true; value = v; state = c .result .writer .coder }; histograms = c .histograms }
-
 -- The reader's call in a context gives back the number that the writer's call in it was handed, and the data continue what was there before.
 pub call-back : (d l : List ℕ) (w : Writer) (hs : Histograms) (c : Context) (v : ℕ) → Typed c v
     → (let r = callWrite l w hs c v in r .result .number ≡ 0 → Continues d (r .result .bytes) (r .result .writer .coder)
-    → (callRead d (w .coder) hs c ≡ given v r) × Continues d l (w .coder))
+    → (callRead d (w .coder) hs c ≡ readBack (called (record { context = c; value = v }) r)) × Continues d l (w .coder))
 unfolding callRead callWrite dynamicNumber takeDynamic takeNumber takePlain takeStatic taken takenHistogram write writeDynamic writePlain
     writeStatic writtenHistogram
 call-back d l w hs (plain n) v t e h =
@@ -94,12 +93,95 @@ call-back d l w hs (dynamic k) v t e h =
     let f = dynamic-found g v (bitAt d) (w .coder) t (b .pointed) in
     (rw (f .0, f .1, b .done, b .passes true (ltb v values) refl (b .value)), b .earlier)
 
+-- So it does that of another writer's escape for a value already seen.
+escape-codable : (h : Histogram) (v : ℕ) → WellFormedHistogram h → AllCodable (escapeSpans h v)
+escape-codable h v f = (span-codable h 0 f (weight-inside h 0 (f .escape)) (f .escape), plain-codable 4 v)
+
+pub escape-back : (d l : List ℕ) (w : Writer) (hs : Histograms) (k v : ℕ) → v < 256 ^ 4
+    → (let r = callEscape l w hs k v in r .result .number ≡ 0 → Continues d (r .result .bytes) (r .result .writer .coder)
+    → (callRead d (w .coder) hs (dynamic k) ≡ readBack (called (record { context = dynamic k; value = v }) r)) × Continues d l (w .coder))
+unfolding callEscape callRead takeDynamic takeNumber taken takenHistogram write
+escape-back d l w hs k v t e h =
+    let g : Histogram = getD hs k [] in
+    let b = back d l w (histogramFormed g) (ltb v values) true (escapeSpans g v) (λ formed _. escape-codable g v (histogram-true g formed)) e h in
+    let f = escape-found g v (bitAt d) (w .coder) t (b .pointed) in
+    (rw (f .0, f .1, b .done, b .passes true (ltb v values) refl (b .value)), b .earlier)
+
+-- ---- calls that are refused
+
+-- a write is done with the number 0, or leaves buffer and writer
+write-done : (n : ℕ) (l : List ℕ) (w : Writer) (compresses : Bool) (spans : List Span) → (write n l w compresses spans) .done ≡ true
+    → (write n l w compresses spans) .number ≡ 0
+unfolding write
+write-done zero l w compresses spans e = refl
+write-done (suc n) l w compresses spans e = let z : _≡_ {A = ℕ} 0 1 = cc in absurd (omega arith)
+
+write-refused : (n : ℕ) (l : List ℕ) (w : Writer) (compresses : Bool) (spans : List Span) (later lent : Histogram)
+    → (let r = write n l w compresses spans in r .done ≡ false → (r .bytes ≡ l) × (r .writer ≡ w) × (kept n later lent ≡ lent))
+unfolding write
+write-refused zero l w compresses spans later lent e = let z : _≡_ {A = ℕ} 0 1 = cc in absurd (omega arith)
+write-refused (suc n) l w compresses spans later lent e = (refl, refl, refl)
+
+pub call-done : (l : List ℕ) (w : Writer) (hs : Histograms) (c : Context) (v : ℕ)
+    → (let r = callWrite l w hs c v in r .result .done ≡ true → r .result .number ≡ 0)
+unfolding callWrite writePlain writeStatic writeDynamic
+call-done l w hs (plain n) v e = write-done _ l w false _ e
+call-done l w hs (static range) v e = write-done _ l w true _ e
+call-done l w hs (dynamic k) v e = write-done _ l w true _ e
+
+-- A call that is refused leaves all that was lent.
+pub call-refused : (l : List ℕ) (w : Writer) (hs : Histograms) (c : Context) (v : ℕ)
+    → (let r = callWrite l w hs c v in r .result .done ≡ false → (r .result .bytes ≡ l) × (r .result .writer ≡ w) × (r .histograms ≡ hs))
+unfolding callWrite writePlain writeStatic writeDynamic writtenHistogram
+call-refused l w hs (plain n) v e = let r = write-refused _ l w false _ [] [] e in (r .0, r .1, refl)
+call-refused l w hs (static range) v e = let r = write-refused _ l w true _ [] [] e in (r .0, r .1, refl)
+call-refused l w hs (dynamic k) v e =
+    let h : Histogram = getD hs k [] in
+    let r = write-refused (dynamicNumber h l w v) l w true (dynamicSpans h v) (dynamicAfter h v) h e in
+    (r .0, r .1, rw (r .2) (set-getD hs k []))
+
+pub escape-done : (l : List ℕ) (w : Writer) (hs : Histograms) (k v : ℕ)
+    → (let r = callEscape l w hs k v in r .result .done ≡ true → r .result .number ≡ 0)
+unfolding callEscape
+escape-done l w hs k v e = write-done _ l w true _ e
+
+pub escape-refused : (l : List ℕ) (w : Writer) (hs : Histograms) (k v : ℕ)
+    → (let r = callEscape l w hs k v in r .result .done ≡ false → (r .result .bytes ≡ l) × (r .result .writer ≡ w) × (r .histograms ≡ hs))
+unfolding callEscape
+escape-refused l w hs k v e =
+    let h : Histogram = getD hs k [] in
+    let r = write-refused _ l w true (escapeSpans h v) (escapeAfter h v) h e in
+    (r .0, r .1, rw (r .2) (set-getD hs k []))
+
+-- So does an end.
+as-refused : (n : ℕ) (l : List ℕ) (w : Writer) (next : Coder) (bits : List ℕ)
+    → (let r = endAs n l w next bits in r .done ≡ false → (r .bytes ≡ l) × (r .writer ≡ w))
+unfolding endAs
+as-refused zero l w next bits e = let z : _≡_ {A = ℕ} 0 1 = cc in absurd (omega arith)
+as-refused (suc n) l w next bits e = (refl, refl)
+
+as-done : (n : ℕ) (l : List ℕ) (w : Writer) (next : Coder) (bits : List ℕ)
+    → (let r = endAs n l w next bits in r .done ≡ true → r .number ≡ 0)
+unfolding endAs
+as-done zero l w next bits e = refl
+as-done (suc n) l w next bits e = let z : _≡_ {A = ℕ} 0 1 = cc in absurd (omega arith)
+
+pub end-done : (l : List ℕ) (w : Writer) → (end l w) .done ≡ true → (end l w) .number ≡ 0
+unfolding end
+end-done l w e = as-done (endNumber l w) l w _ _ e
+
+pub end-refused : (l : List ℕ) (w : Writer) → (end l w) .done ≡ false → ((end l w) .bytes ≡ l) × ((end l w) .writer ≡ w)
+unfolding end
+end-refused l w e = as-refused (endNumber l w) l w _ _ e
+
 -- ---- the end
 
--- The bytes that the end says are used continue what was there before it.
-pub ended-back : (l : List ℕ) (w : Writer) → (end l w) .number ≡ 0 → Continues (take ((end l w) .used) ((end l w) .bytes)) l (w .coder)
+-- The bytes that the end says are used, whatever follows them, continue what was there before it.
+pub ended-back : (l rest : List ℕ) (w : Writer) → (end l w) .number ≡ 0
+    → (let s = w .coder in let d = take ((end l w) .used) ((end l w) .bytes) ++ rest in
+    length d ≤ largestFile → (w .compressed ≡ false → s .low ≡ 0 → s .pending ≡ 0 → code s (bitAt d) ≤ s .high) → Continues d l s)
 unfolding end endNumber endAs
-ended-back l w e =
+ended-back l rest w e small number =
     let done = end-zero (endNumber l w) l w _ _ e in
     let p = write-passed l (w .coder) _ _ _ done in
-    rw done (end-back (w .compressed) l (w .coder) (p .writable .limits) (p .writable .small) (omega (arith, p .room)))
+    rw done (end-back (w .compressed) l rest (w .coder) (p .writable .limits) (omega (arith, p .room)) (rw done at small) (rw done at number))

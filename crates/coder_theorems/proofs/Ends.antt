@@ -1,26 +1,26 @@
--- Whatever the end writes, a reader at the state before it agrees with the stream: the end's bits were tried on such a reader, or are low
+-- Whatever the end writes, a reader at the state before it agrees with the stream, whatever follows: the end's bits are a plain U32 of 0, or low
 -- itself.
-use Prim.Native.Nat.{ℕ, zero, suc, _+_, _*_, _-_, _/_, _%_, _^_, _≤_, _<_}
+use Prim.Native.Nat.{ℕ, zero, suc, _+_, _*_, _/_, _%_, _^_, _≤_}
 use Rattle.coder.proofs.Backward.{settled-first}
-use Rattle.coder.proofs.Carrying.{carries-append, carries-at}
-use Rattle.coder.proofs.Judgements.{finds-true}
+use Rattle.coder.proofs.Carrying.{carries-append}
+use Rattle.coder.proofs.Flushing.{end-flush, end-low, flush-agrees, zeros-low, zeros-pending}
 use Rattle.coder.proofs.Sequence.{all-count}
 use Rattle.coder.proofs.SettledBits.{AllBits, all-bits, bits-append, settled-bits}
 use Rattle.coder.proofs.Spans.{plain-codable}
 use Rattle.coder.proofs.Streams.{word-first}
 use Rattle.coder.proofs.Turns.{settled-length}
-use Rattle.coder.specs.Ending.{bitsOf, endBits, endState, flushBits, flushFound, flushState, lowBits, lowState, placed}
+use Rattle.coder.specs.Ending.{bitsOf, endBits, endState, flushBits, flushFound, flushState, lowBits, lowState}
 use Rattle.coder.specs.Interval.{Agrees, WellFormed, code, settledBits}
 use Rattle.coder.specs.declared.interval.Coder.{Coder}
-use Rattle.coder.specs.Stream.{Carries, Stream, word}
+use Rattle.coder.specs.Stream.{Binary, Carries, Stream, word}
 use Rattle.coder.specs.Symbols.{plainSpans}
 use lib.Arith.{mod-mul}
-use lib.ListN.{List·getD-eq-default, getD, length, length-append}
+use lib.ListN.{length, length-append}
 use lib.Pow.{pow-pos}
 use mathlib.Core.Bool.{Bool, true, false}
 use mathlib.Core.List.{List}
 use mathlib.Core.Path.{_≡_, _∙_, ap, refl, sym}
-use native.Mathlib.Decide.{decLt}
+use native.Mathlib.Decide.{ℕ-discrete}
 use native.Mathlib.Nat.{mod-one, pow-succ'}
 use native.Mathlib.Omega.{arith}
 
@@ -35,35 +35,6 @@ end-cases P compressed s flush low = go (flushFound compressed s) refl
         → P (elim t [ true ↦ flushBits compressed s | false ↦ lowBits s ]) (elim t [ true ↦ flushState compressed s | false ↦ lowState s ])
     go true e = flush e
     go false e = low
-
--- ---- what a reader sees starts at its settled bits
-
-word-same : (x y : Stream) (p n : ℕ) → ((i : ℕ) → p ≤ i → x i ≡ y i) → word x p n ≡ word y p n
-unfolding word
-word-same x y p zero e = refl
-word-same x y p (suc n) e = omega (arith, word-same x y p n e, e (p + n) (omega arith))
-
-agrees-same : (s : Coder) (x y : Stream) → ((i : ℕ) → s .settled ≤ i → x i ≡ y i) → Agrees s y → Agrees s x
-unfolding code
-agrees-same s x y e a =
-    let b : x (s .settled) ≡ y (s .settled) = e (s .settled) (omega arith) in
-    let w : word x (s .settled + 1 + s .pending) 15 ≡ word y (s .settled + 1 + s .pending) 15 = word-same x y _ 15 (λ i h. e i (omega arith)) in
-    let l : s .low ≤ y (s .settled) * 0x8000 + word y (s .settled + 1 + s .pending) 15 = a .from-low in
-    let u : y (s .settled) * 0x8000 + word y (s .settled + 1 + s .pending) 15 ≤ s .high = a .to-high in
-    record {
-      inverted = λ i h. e _ (omega arith) ∙ a .inverted i h ∙ ap (λ (k : ℕ). 1 - k) (sym b);
-      from-low = omega arith;
-      to-high = omega arith;
-    }
-
--- bits with zeros after them
-placed-same : (x : Stream) (l : List ℕ) (p : ℕ) → Carries x p l → ((i : ℕ) → p + length l ≤ i → x i ≡ 0) → (i : ℕ) → p ≤ i → x i ≡ placed p l i
-unfolding placed
-placed-same x l p c z i h = go (decLt (i - p) (length l))
-  where
-    go : Dec (i - p < length l) → x i ≡ getD l (i - p) 0
-    go (yes k) = ap x (omega arith) ∙ carries-at x l p c (i - p) k
-    go (no k) = z i (omega arith) ∙ sym (List·getD-eq-default l 0 (omega arith))
 
 -- ---- low itself
 
@@ -85,16 +56,20 @@ low-agrees s x w c =
 
 -- ---- the end
 
--- A reader at the state before the end agrees with a stream that has its bits and then zeros.
-pub end-agrees : (compressed : Bool) (s : Coder) (x : Stream) → WellFormed s → Carries x (s .settled) (endBits compressed s)
-    → ((i : ℕ) → s .settled + length (endBits compressed s) ≤ i → x i ≡ 0) → Agrees s x
-end-agrees compressed s x w =
-    end-cases (λ (bits : List ℕ) (t : Coder). Carries x (s .settled) bits → ((i : ℕ) → s .settled + length bits ≤ i → x i ≡ 0) → Agrees s x)
-    compressed s
-    (λ e c z.
-    let bits : List ℕ = flushBits compressed s in
-    agrees-same s x (placed (s .settled) bits) (placed-same x bits (s .settled) c z) (finds-true s _ e))
-    (λ c z. low-agrees s x w c)
+-- A reader at the state before the end agrees with every stream that has its bits there. Where the end has none, the stream's number has to be
+-- one of the state's.
+pub end-agrees : (compressed : Bool) (s : Coder) (x : Stream) → Binary x → WellFormed s → Carries x (s .settled) (endBits compressed s)
+    → (compressed ≡ false → s .low ≡ 0 → s .pending ≡ 0 → code s x ≤ s .high) → Agrees s x
+end-agrees true s x two w c number = flush-agrees s x two w (rw (end-flush s w .1) at c)
+end-agrees false s x two w c number = go (ℕ-discrete (s .low) 0) (ℕ-discrete (s .pending) 0)
+  where
+    low-end : flushFound false s ≡ false → Agrees s x
+    low-end none = low-agrees s x w (rw (end-low s none .1) at c)
+
+    go : Dec (s .low ≡ 0) → Dec (s .pending ≡ 0) → Agrees s x
+    go (yes l) (yes p) = record { inverted = λ i h. absurd (omega arith); from-low = omega arith; to-high = number refl l p }
+    go (yes l) (no p) = low-end (zeros-pending s p)
+    go (no l) p = low-end (zeros-low s l)
 
 -- as many bits are settled as are put
 flush-count : (compressed : Bool) (s : Coder) → flushState compressed s .settled ≡ s .settled + length (flushBits compressed s)

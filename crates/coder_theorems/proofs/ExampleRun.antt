@@ -1,45 +1,58 @@
--- A run of numbers that meets the round trip's assumptions, computed: the theorem speaks of something.
-use Prim.Native.Nat.{ℕ}
+-- A run that meets the round trip's assumptions, computed: the theorem speaks of something.
+use Prim.Native.Nat.{ℕ, _≤_}
 use Rattle.coder_theorems.proofs.RoundTrip.{round-trip}
 use Rattle.coder.specs.Bytes.{padded, putBit, putBits, storeBits}
 use Rattle.coder.specs.Ending.{bitsOf, endBits, endState, flushBits, flushState, lowBits, lowState, placed}
 use Rattle.coder.specs.Forms.{codeWithin, finds, isRun, limitsFormed, pendingInverted, writerFormed}
 use Rattle.coder.specs.Histogram.{freshHistogram, histogramFormed, raised, spanOf, sum, thinned}
 use Rattle.coder.specs.Interval.{afterSymbol, code, fresh, narrow, postpones, settleTops, settledBits, symbolBits, topBits}
-use Rattle.coder_theorems.specs.Runs.{AllDone, AllTyped, Number, WriteCall, bytesAfter, callWrite, contextOf, dynamic, plain, readBack, readCalls, static, writeCalls, writerAfter}
+use Rattle.coder_theorems.specs.Runs.{AllKeep, AllTyped, Called, Held, Number, Step, afterStep, afterSteps, begun, callEscape, callWrite, contextIn, dynamic, endCall, escape, finish, lend, numberIn, plain, put, readBack, readCalls, static, takenCalls, writeCalls}
 use Rattle.coder.specs.Stream.{word}
 use Rattle.coder.specs.Symbols.{afterSymbols, dynamicAfter, dynamicSpans, plainSpans, reversed, staticSpans, symbolsBits}
-use Rattle.coder.specs.Writing.{End, dynamicNumber, end, endNumber, endAs, freshWriter, write, writeDynamic, writeFault, writeNumber, writePlain, writeStatic, writtenHistogram}
-use lib.ListN.{replicate, take}
-use mathlib.Core.List.{List, [], _∷_, map}
+use Rattle.coder.specs.Writing.{End, dynamicNumber, end, endNumber, endAs, write, writeDynamic, writeFault, writeNumber, writePlain, writeStatic, writtenHistogram}
+use Rattle.fields.specs.Limits.{largestFile}
+use lib.ListN.{length, replicate, take}
+use mathlib.Core.List.{List, [], _∷_, _++_, map}
 use mathlib.Core.Path.{_≡_, refl}
 use native.Mathlib.Omega.{arith}
 
-abbrev bytes : ℕ → List ℕ
-bytes n = replicate n 0xFF
+-- a plain value, a range, and a value escaped, known, and escaped again
+abbrev numbers : List Number
+numbers =
+    record { context = plain 2; value = 0x1234 } ∷ record { context = static 3; value = 1 } ∷ record { context = dynamic 0; value = 7 }
+    ∷ record { context = dynamic 0; value = 7 } ∷ record { context = dynamic 0; value = 7 } ∷ []
 
--- a run with an escape and a known value meets the round trip's assumptions
-run : List Number
+-- four bytes are too few for the third (12), a value is out of range (10), and there is no room for the end (12); then more is lent
+run : List Step
 run =
-    record { context = static 3; value = 1 } ∷ record { context = dynamic 0; value = 7 } ∷ record { context = dynamic 0; value = 7 }
-    ∷ record { context = plain 2; value = 0x1234 } ∷ []
+    put (record { context = plain 2; value = 0x1234 }) ∷ put (record { context = static 3; value = 1 })
+    ∷ put (record { context = dynamic 0; value = 7 }) ∷ put (record { context = static 3; value = 3 }) ∷ finish
+    ∷ lend (0x34 ∷ 0x12 ∷ replicate 30 0xAA)
+    ∷ put (record { context = dynamic 0; value = 7 }) ∷ put (record { context = dynamic 0; value = 7 }) ∷ escape 0 7 ∷ []
 
-abbrev run-calls : List WriteCall
-run-calls = writeCalls (bytes 32) freshWriter (freshHistogram ∷ []) run
+abbrev start : Held
+start = begun (replicate 4 0xFF) (freshHistogram ∷ [])
 
-abbrev run-ended : End
-run-ended = end (bytesAfter (bytes 32) run-calls) (writerAfter freshWriter run-calls)
+abbrev took : List Called
+took = takenCalls (writeCalls start run)
 
-run-typed : AllTyped run
-unfolding run AllTyped
-run-typed = (omega arith, (omega arith, (omega arith, (omega arith, tt))))
+abbrev ended : End
+ended = endCall (afterSteps start run)
 
-run-done : AllDone run-calls × (run-ended .number ≡ 0)
-unfolding afterSymbol afterSymbols callWrite dynamicAfter dynamicNumber dynamicSpans histogramFormed limitsFormed narrow padded plainSpans
-    postpones putBit putBits raised reversed settleTops settledBits spanOf staticSpans storeBits sum symbolBits symbolsBits thinned topBits
-    write writeCalls writeDynamic writeFault writeNumber writeStatic writerFormed writtenHistogram AllDone bitsOf bytesAfter code codeWithin end endBits endNumber endState endAs finds flushBits flushState isRun lowBits
-    lowState pendingInverted placed run word writePlain writerAfter
-run-done = ((refl, (refl, (refl, (refl, tt)))), refl)
+run-taken : (map numberIn took ≡ numbers) × AllKeep start run × (ended .number ≡ 0) × (ended .used ≡ 15)
+unfolding AllKeep afterStep afterSteps afterSymbol afterSymbols bitsOf callEscape callWrite code codeWithin dynamicAfter dynamicNumber dynamicSpans end
+    endAs endBits endNumber endState finds flushBits flushState histogramFormed isRun limitsFormed lowBits lowState narrow padded
+    pendingInverted placed plainSpans postpones putBit putBits raised reversed run settleTops settledBits spanOf staticSpans storeBits sum
+    symbolBits symbolsBits takenCalls thinned topBits word write writeCalls writeDynamic writeFault writeNumber writePlain writeStatic
+    writerFormed writtenHistogram
+run-taken = (refl, (tt, (tt, (tt, (tt, (refl, (refl, (tt, (tt, (tt, tt))))))))), refl, refl)
 
-run-read : readCalls (take (run-ended .used) (run-ended .bytes)) fresh (freshHistogram ∷ []) (map contextOf run) ≡ readBack run run-calls
-run-read = round-trip run (freshHistogram ∷ []) (bytes 32) run-typed (run-done .0) (run-done .1)
+run-typed : AllTyped numbers
+unfolding AllTyped
+run-typed = (omega arith, (omega arith, (omega arith, (omega arith, (omega arith, tt)))))
+
+run-read : (rest : List ℕ)
+    → (let d = take (ended .used) (ended .bytes) ++ rest in
+    length d ≤ largestFile → readCalls d fresh (freshHistogram ∷ []) (map contextIn took) ≡ map readBack took)
+run-read rest small =
+    round-trip run (freshHistogram ∷ []) (replicate 4 0xFF) rest (rw (run-taken .0) run-typed) (run-taken .1) (run-taken .2) small

@@ -3,6 +3,7 @@ pub mod ReadBack
 pub mod Ends
 pub mod Continuing
 pub mod Calls
+pub mod Opening
 pub mod RoundTrip
 pub mod Inner
 pub mod Steady

@@ -13,6 +13,7 @@ use Rattle.coder.specs.Stream.{Stream}
 use Rattle.coder.specs.Symbols.{afterSymbols, dynamicAfter, dynamicSpans, plainSpans, reversed, staticSpan, staticSpans}
 use Rattle.coder.specs.Values.{nextSymbol, readAfter, readDynamic, readPlain, readStatic, readSymbol, symbolAfter, symbolValue}
 use Rattle.coder.specs.declared.read.Found.{Found}
+use Rattle.coder_theorems.specs.Runs.{escapeAfter, escapeSpans}
 use lib.Dec.{leb}
 use mathlib.Core.Bool.{Bool, true, false}
 use mathlib.Core.List.{List, [], _∷_}
@@ -59,15 +60,21 @@ symbol-found : (h : Histogram) (k : ℕ) (x : Stream) (s : Coder) → Pointed s 
 unfolding spanOf
 symbol-found h k x s p = symbol-part h k (target s x (sum h)) (p .0) (p .1)
 
--- So do those of a dynamic context, and the histogram after them is the one that the writer left.
+-- So do those of an escaped value, seen or not, and the histogram after them is the one that the writer left.
+pub escape-found : (h : Histogram) (v : ℕ) (x : Stream) (s : Coder) → v < 256 ^ 4 → Pointed s x (escapeSpans h v)
+    → (readDynamic h x s ≡ finding v s (escapeSpans h v)) × (readAfter h x s ≡ escapeAfter h v)
+unfolding readDynamic readAfter readSymbol symbolAfter afterSymbols
+escape-found h v x s b p =
+    let k = symbol-found h 0 x s (p .0, p .1, tt) in
+    let e = plain-found 4 v x (afterSymbol s (spanOf h 0)) b (p .2) in
+    (rw (k, readSymbol) e, rw (k, symbolAfter, readSymbol, e))
+
+-- So do those of a dynamic context.
 pub dynamic-found : (h : Histogram) (v : ℕ) (x : Stream) (s : Coder) → v < 256 ^ 4 → Pointed s x (dynamicSpans h v)
     → (readDynamic h x s ≡ finding v s (dynamicSpans h v)) × (readAfter h x s ≡ dynamicAfter h v)
 unfolding readDynamic readAfter readSymbol symbolAfter afterSymbols
 dynamic-found h v x s b =
     dynamic-cases (λ (symbols : List Span) (after : Histogram).
     Pointed s x symbols → (readDynamic h x s ≡ finding v s symbols) × (readAfter h x s ≡ after)) h v
-    (λ p.
-    let k = symbol-found h 0 x s (p .0, p .1, tt) in
-    let e = plain-found 4 v x (afterSymbol s (spanOf h 0)) b (p .2) in
-    (rw (k, readSymbol) e, rw (k, symbolAfter, readSymbol, e)))
+    (escape-found h v x s b)
     (λ some p. let k = symbol-found h (suc v) x s p in (rw (k, readSymbol), rw (k, symbolAfter)))

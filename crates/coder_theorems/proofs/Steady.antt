@@ -1,5 +1,5 @@
--- A reader that begins fresh is never told 9 or 18, as long as its bits can be counted: each call leads from a state that it takes to
--- another, and from well-formed histograms to well-formed ones.
+-- A reader that begins fresh is refused with 1 or 10 only, never with 9 or 18, as long as its bits can be counted: each call leads from a
+-- state that it takes to another, and from well-formed histograms to well-formed ones.
 use Prim.Native.Nat.{ℕ, zero, suc, _+_, _*_, _^_, _≤_, _<_}
 use Rattle.coder.proofs.Found.{LeadsOn, dynamic-on, plain-on, range-on}
 use Rattle.coder.proofs.Judgements.{histogram-hold, histogram-true, looked-hold, read-passed, readable-hold}
@@ -11,16 +11,16 @@ use Rattle.coder.specs.Forms.{unless}
 use Rattle.coder.specs.Histogram.{Histogram, histogramFormed, spanOf}
 use Rattle.coder.specs.Inside.{Reading}
 use Rattle.coder.specs.Interval.{Inverted, afterSymbol, code, fresh, largestRange, target}
-use Rattle.coder.specs.Reading.{readFault, readNumber, takeDynamic, takeNumber, takePlain, takeStatic, taken, takenHistogram}
+use Rattle.coder.specs.Reading.{Taken, readFault, readNumber, takeDynamic, takeNumber, takePlain, takeStatic, taken, takenHistogram}
 use Rattle.coder.specs.Stream.{Stream}
 use Rattle.coder.specs.Symbols.{staticSpan}
 use Rattle.coder.specs.Values.{nextSymbol, readAfter, readDynamic, readPlain, readStatic, readSymbol, symbolValue}
 use Rattle.coder.specs.Writing.{kept}
 use Rattle.coder.specs.declared.interval.Coder.{Coder}
 use Rattle.coder.specs.declared.read.Found.{Found}
-use Rattle.coder_theorems.specs.Runs.{AllFormed, AllPresent, Context, Histograms, NoneAtFault, Present, ReadCall, allBits, callRead, dynamic, mostBits, plain, readCalls, static}
+use Rattle.coder_theorems.specs.Runs.{AllFormed, AllPresent, Context, Histograms, NoFault, NoneAtFault, Present, ReadCall, allBits, callRead, dynamic, mostBits, plain, readCalls, static}
 use Rattle.fields.specs.Limits.{largestFile}
-use Rattle.fields.specs.Numbers.{badState, outOfRange, overLimit, truncated}
+use Rattle.fields.specs.Numbers.{outOfRange, truncated}
 use lib.Dec.{leb, ltb}
 use lib.ListN.{getD, length, length-set, set}
 use mathlib.Core.Bool.{Bool, true, false}
@@ -66,21 +66,15 @@ pub record Steady (d : List ℕ) (s : Coder) (used : ℕ) : Type 0 where
   pub inverted : Inverted s (bitAt d)
   pub few : bits s ≤ used
 
--- neither 9 nor 18
-abbrev pub Sound : ℕ → Type 0
-Sound n = (n ≡ overLimit → ⊥) × (n ≡ badState → ⊥)
+abbrev pub Sound : Taken → Type 0
+Sound t = NoFault (t .done) (t .number)
 
-left-sound : (a b c : Bool) → Sound (unless a outOfRange (unless b truncated (unless c outOfRange 0)))
-left-sound false b c = (λ e. omega (arith, e), λ e. omega (arith, e))
-left-sound true false c = (λ e. omega (arith, e), λ e. omega (arith, e))
-left-sound true true false = (λ e. omega (arith, e), λ e. omega (arith, e))
-left-sound true true true = (λ e. omega (arith, e), λ e. omega (arith, e))
-
--- an answer has the number that was judged
-taken-number : (n : ℕ) (found : Found) (s : Coder) → (taken n found s) .number ≡ n
+left-sound : (a b c : Bool) (found : Found) (s : Coder) → Sound (taken (unless a outOfRange (unless b truncated (unless c outOfRange 0))) found s)
 unfolding taken
-taken-number zero found s = refl
-taken-number (suc n) found s = refl
+left-sound false b c found s = refl
+left-sound true false c found s = refl
+left-sound true true false found s = refl
+left-sound true true true found s = refl
 
 module _ (d : List ℕ) (s : Coder) (used : ℕ) (st : Steady d s used) (countable : used < 2 ^ 32) (contextGood rangeGood : Bool) (found : Found)
     (valueGood : Bool) (good : contextGood ≡ true) where
@@ -98,9 +92,9 @@ module _ (d : List ℕ) (s : Coder) (used : ℕ) (st : Steady d s used) (countab
         looked = looked-hold true s (bitAt d) (st .inverted);
       })
 
-  number-sound : Sound ((taken number found s) .number)
+  number-sound : Sound (taken number found s)
   unfolding readNumber
-  number-sound = rw (taken-number, no-fault, good) (left-sound rangeGood (leb (found .state .settled) _) valueGood)
+  number-sound = rw (no-fault, good) (left-sound rangeGood (leb (found .state .settled) _) valueGood found s)
 
   taken-steady : (more : ℕ) → LeadsOn d s contextGood rangeGood found → bits (found .state) ≤ bits s + more
       → Steady d ((taken number found s) .state) (used + more)
@@ -139,7 +133,7 @@ taken-formed h d s e = go (takeNumber true (histogramFormed h) d s (readDynamic 
 -- ---- calls
 
 pub record Went (d : List ℕ) (count used : ℕ) (r : ReadCall) : Type 0 where
-  pub sound : Sound (r .result .number)
+  pub sound : Sound (r .result)
   pub steady : Steady d (r .result .state) used
   pub formed : AllFormed (r .histograms)
   pub same : length (r .histograms) ≡ count
@@ -178,7 +172,7 @@ none-at-fault d [] s hs count used st a same p few = tt
 none-at-fault d (c ∷ cs) s hs count used st a same p few =
     let w = went d s hs c used st a (rw same (p .0)) (omega arith) in
     let rest = none-at-fault d cs _ _ count (used + mostBits c) (w .steady) (w .formed) (w .same ∙ same) (p .1) (omega arith) in
-    (w .sound .0, w .sound .1, rest)
+    (w .sound, rest)
 
 pub fresh-steady : (d : List ℕ) → length d ≤ largestFile → Steady d fresh 0
 unfolding code
@@ -192,7 +186,7 @@ fresh-steady d small =
       few = omega arith;
     }
 
--- Whatever the data are, up to 16 MiB, the calls of a reader that begins fresh, in well-formed histograms, are never refused with 9 or 18,
+-- Whatever the data are, up to 16 MiB, the calls of a reader that begins fresh, in well-formed histograms, are done or refused with 1 or 10,
 -- as long as they settle and postpone fewer than 2^32 bits.
 pub never-at-fault : (d : List ℕ) (hs : Histograms) (cs : List Context) → length d ≤ largestFile → AllFormed hs → AllPresent (length hs) cs
     → allBits cs < 2 ^ 32 → NoneAtFault (readCalls d fresh hs cs)

@@ -3,19 +3,18 @@
 use Prim.Native.Nat.{ℕ, suc, _+_, _*_, _-_, _/_, _%_, _^_, _≤_, _<_}
 use Rattle.coder.proofs.Putting.{bit-mul, length-putBit, length-putBits}
 use Rattle.coder.proofs.SettledBits.{AllBits}
-use Rattle.coder.proofs.Streams.{bit-past}
 use Rattle.coder.specs.Bytes.{bitAt, bytesOf, padded, putBit, putBits, storeBits}
 use Rattle.coder.specs.Stream.{Carries}
 use borrow.Author.Tests.{eqb-false, eqb-true}
 use lib.Dec.{eqb}
-use lib.ListN.{getD, length, length-take, set, take}
+use lib.ListN.{getD, length, set, take}
 use lib.Pow.{field, high, low, mod-mod-pow, pow-mono, pow-pos}
 use lib.Seq.{getD-set-other, getD-set-same, getD-take}
 use mathlib.Core.Bool.{Bool, true, false, cond}
 use mathlib.Core.List.{List, [], _∷_}
 use mathlib.Core.Logic.{_≢_, ⊎-elim}
 use mathlib.Core.Path.{_≡_, _∙_, refl, sym}
-use native.Mathlib.Decide.{decLt, ℕ-discrete}
+use native.Mathlib.Decide.{ℕ-discrete}
 use native.Mathlib.Nat.{add-comm, div-eq-of-lt, eq-or-lt-of-le, mod-eq-of-lt, mod-lt, pow-suc}
 use native.Mathlib.Omega.{arith}
 
@@ -135,13 +134,6 @@ take-byte : (l : List ℕ) (n i : ℕ) → i < 8 * n → bitAt (take n l) i ≡ 
 unfolding bitAt
 take-byte l n i h = let inside : i / 8 < n = omega arith in rw (getD-take n l (i / 8) 0)
 
--- bytes cut where the last bit is keep the bits, and read as zeros after them
+-- bytes cut where the last bit is keep the bits
 pub take-before : (l : List ℕ) (n i : ℕ) → i < n → bitAt (take (bytesOf n) l) i ≡ bitAt l i
 take-before l n i h = take-byte l (bytesOf n) i (omega arith)
-
-pub take-after : (l : List ℕ) (n i : ℕ) → ZeroTail l n → n ≤ i → bitAt (take (bytesOf n) l) i ≡ 0
-take-after l n i z h = go (decLt i (8 * bytesOf n))
-  where
-    go : Dec (i < 8 * bytesOf n) → bitAt (take (bytesOf n) l) i ≡ 0
-    go (yes g) = take-byte l (bytesOf n) i g ∙ z i h g
-    go (no g) = bit-past (take (bytesOf n) l) i (omega (arith, length-take (bytesOf n) l))

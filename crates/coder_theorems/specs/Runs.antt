@@ -1,14 +1,20 @@
--- Runs of calls: numbers in contexts, written one after the other and read back. Each call is handed what the one before gave back.
-use Prim.Native.Nat.{ℕ, _+_, _*_, _^_, _<_}
-use Rattle.coder.specs.Histogram.{Histogram, histogramFormed, sum}
+-- Runs of calls: numbers in contexts, written one after the other in buffers that are lent, and read back. Each call is handed the state and
+-- the histograms that the one before gave back.
+use Prim.Native.Nat.{ℕ, suc, _+_, _*_, _^_, _<_}
+use Rattle.coder.specs.Bytes.{bytesOf}
+use Rattle.coder.specs.Histogram.{Histogram, histogramFormed, raised, spanOf, sum, values}
 use Rattle.coder.specs.declared.interval.Coder.{Coder}
+use Rattle.coder.specs.declared.interval.Span.{Span}
 use Rattle.coder.specs.Reading.{Taken, takeDynamic, takePlain, takeStatic, takenHistogram}
+use Rattle.coder.specs.Symbols.{afterSymbols, plainSpans}
 use Rattle.coder.specs.Totals.{takeCounted}
-use Rattle.coder.specs.Writing.{Write, writeDynamic, writePlain, writeStatic, writtenHistogram}
+use Rattle.coder.specs.Writing.{End, Write, end, freshWriter, kept, write, writeDynamic, writeNumber, writePlain, writeStatic, writtenHistogram}
 use Rattle.coder.specs.declared.write.Writer.{Writer}
-use Rattle.fields.specs.Numbers.{badState, overLimit}
-use lib.ListN.{getD, set}
-use mathlib.Core.Bool.{true, false}
+use Rattle.fields.specs.Judged.{pick}
+use Rattle.fields.specs.Numbers.{outOfRange, truncated}
+use lib.Dec.{eqb, ltb}
+use lib.ListN.{getD, set, take}
+use mathlib.Core.Bool.{Bool, true, false, _||_}
 use mathlib.Core.List.{List, [], _∷_, map}
 use mathlib.Core.Path.{_≡_}
 
@@ -27,9 +33,6 @@ pub record Number : Type 0 where
   pub context : Context
   pub value : ℕ
 
-abbrev pub contextOf : Number → Context
-contextOf n = n .context
-
 -- ---- writing
 
 pub record WriteCall : Type 0 where
@@ -42,25 +45,95 @@ callWrite l w hs (static range) v = record { result = writeStatic range l w v; h
 callWrite l w hs (dynamic k) v =
     record { result = writeDynamic (getD hs k []) l w v; histograms = set hs k (writtenHistogram (getD hs k []) l w v) }
 
-unfoldable pub writeCalls : List ℕ → Writer → Histograms → List Number → List WriteCall
-writeCalls l w hs [] = []
-writeCalls l w hs (n ∷ ns) =
-    let c = callWrite l w hs (n .context) (n .value) in
-    c ∷ writeCalls (c .result .bytes) (c .result .writer) (c .histograms) ns
+-- the symbols of an escaped value, and the histogram after it
+abbrev pub escapeSpans : Histogram → ℕ → List Span
+escapeSpans h v = spanOf h 0 ∷ plainSpans 4 v
 
--- every call of a run is done
-unfoldable pub AllDone : List WriteCall → Type 0
-AllDone [] = Unit {0}
-AllDone (c ∷ cs) = (c .result .number ≡ 0) × AllDone cs
+abbrev pub escapeAfter : Histogram → ℕ → Histogram
+escapeAfter h v = raised (raised h 0) (suc v)
 
--- the bytes and the writer that a run leaves
-unfoldable pub bytesAfter : List ℕ → List WriteCall → List ℕ
-bytesAfter l [] = l
-bytesAfter l (c ∷ cs) = bytesAfter (c .result .bytes) cs
+-- a call of another writer, which escapes a value though it was seen: "a reader accepts an escape for a value already seen, too"
+unfoldable pub callEscape : List ℕ → Writer → Histograms → ℕ → ℕ → WriteCall
+callEscape l w hs k v =
+    let h = getD hs k [] in
+    let number = writeNumber l (w .coder) (histogramFormed h) (ltb v values) (afterSymbols (w .coder) (escapeSpans h v)) in
+    record { result = write number l w true (escapeSpans h v); histograms = set hs k (kept number (escapeAfter h v) h) }
 
-unfoldable pub writerAfter : Writer → List WriteCall → Writer
-writerAfter w [] = w
-writerAfter w (c ∷ cs) = writerAfter (c .result .writer) cs
+-- what a writer's caller holds between two calls
+pub record Held : Type 0 where
+  pub buffer : List ℕ
+  pub writer : Writer
+  pub histograms : Histograms
+
+abbrev pub begun : List ℕ → Histograms → Held
+begun buffer hs = record { buffer = buffer; writer = freshWriter; histograms = hs }
+
+-- what it does: it hands the writer a number, or, in the dynamic context at a place, has a value escaped by another; lends another buffer; or
+-- asks for the end
+pub data Step : Type 0 where
+  put : Number → Step
+  escape : ℕ → ℕ → Step
+  lend : List ℕ → Step
+  finish : Step
+
+abbrev pub putCall : Held → Number → WriteCall
+putCall h n = callWrite (h .buffer) (h .writer) (h .histograms) (n .context) (n .value)
+
+abbrev pub escapeCall : Held → ℕ → ℕ → WriteCall
+escapeCall h k v = callEscape (h .buffer) (h .writer) (h .histograms) k v
+
+abbrev pub endCall : Held → End
+endCall h = end (h .buffer) (h .writer)
+
+abbrev pub heldAfter : WriteCall → Held
+heldAfter c = record { buffer = c .result .bytes; writer = c .result .writer; histograms = c .histograms }
+
+unfoldable pub afterStep : Held → Step → Held
+afterStep h (put n) = heldAfter (putCall h n)
+afterStep h (escape k v) = heldAfter (escapeCall h k v)
+afterStep h (lend buffer) = record { buffer = buffer; writer = h .writer; histograms = h .histograms }
+afterStep h finish = record { buffer = endCall h .bytes; writer = endCall h .writer; histograms = h .histograms }
+
+unfoldable pub afterSteps : Held → List Step → Held
+afterSteps h [] = h
+afterSteps h (step ∷ steps) = afterSteps (afterStep h step) steps
+
+-- another buffer keeps the settled bytes of the one before, and an end within the run is refused
+abbrev pub Keeps : Held → Step → Type 0
+Keeps h (put n) = Unit {0}
+Keeps h (escape k v) = Unit {0}
+Keeps h (lend buffer) = let n = bytesOf (h .writer .coder .settled) in take n buffer ≡ take n (h .buffer)
+Keeps h finish = endCall h .done ≡ false
+
+unfoldable pub AllKeep : Held → List Step → Type 0
+AllKeep h [] = Unit {0}
+AllKeep h (step ∷ steps) = Keeps h step × AllKeep (afterStep h step) steps
+
+-- a number that the writer was handed, and what it answered
+pub record Called : Type 0 where
+  pub number : Number
+  pub call : WriteCall
+
+abbrev pub called : Number → WriteCall → Called
+called n c = record { number = n; call = c }
+
+unfoldable pub writeCalls : Held → List Step → List Called
+writeCalls h [] = []
+writeCalls h (put n ∷ steps) = called n (putCall h n) ∷ writeCalls (afterStep h (put n)) steps
+writeCalls h (escape k v ∷ steps) = called (record { context = dynamic k; value = v }) (escapeCall h k v) ∷ writeCalls (afterStep h (escape k v)) steps
+writeCalls h (lend buffer ∷ steps) = writeCalls (afterStep h (lend buffer)) steps
+writeCalls h (finish ∷ steps) = writeCalls (afterStep h finish) steps
+
+-- the calls that were done: the numbers that the writer took
+unfoldable pub takenCalls : List Called → List Called
+takenCalls [] = []
+takenCalls (c ∷ cs) = pick (c .call .result .done) (c ∷ takenCalls cs) (takenCalls cs)
+
+abbrev pub numberIn : Called → Number
+numberIn c = c .number
+
+abbrev pub contextIn : Called → Context
+contextIn c = c .number .context
 
 -- ---- reading
 
@@ -126,17 +199,26 @@ unfoldable pub AllPresent : ℕ → List Context → Type 0
 AllPresent count [] = Unit {0}
 AllPresent count (c ∷ cs) = Present count c × AllPresent count cs
 
--- no answer is 9 or 18
+-- a number is on a list
+abbrev pub isOn : List ℕ → ℕ → Bool
+isOn [] n = false
+isOn (m ∷ ms) n = eqb n m || isOn ms n
+
+-- a read that is done has the number 0, and one that is refused 1 or 10: never 9 or 18
+abbrev pub NoFault : Bool → ℕ → Type 0
+NoFault true n = n ≡ 0
+NoFault false n = isOn (truncated ∷ outOfRange ∷ []) n ≡ true
+
 unfoldable pub NoneAtFault : List ReadCall → Type 0
 NoneAtFault [] = Unit {0}
-NoneAtFault (r ∷ rs) = (r .result .number ≡ overLimit → ⊥) × (r .result .number ≡ badState → ⊥) × NoneAtFault rs
+NoneAtFault (r ∷ rs) = NoFault (r .result .done) (r .result .number) × NoneAtFault rs
 
--- what a reader of the run's numbers has to give back: each number, and the state and histograms that the writer's call left
-unfoldable pub readBack : List Number → List WriteCall → List ReadCall
-readBack [] cs = []
-readBack (n ∷ ns) [] = []
-readBack (n ∷ ns) (c ∷ cs) =
-    record { result = record { number = 0; done = true; value = n .value; state = c .result .writer .coder }; histograms = c .histograms } ∷ readBack ns cs
+-- what a reader has to give back of a number that was taken: the number, and the state and histograms that the writer's call left
+abbrev pub readBack : Called → ReadCall
+readBack c = record {
+  result = record { number = 0; done = true; value = c .number .value; state = c .call .result .writer .coder };
+  histograms = c .call .histograms;
+}
 
 -- a number is one of its call's type
 abbrev pub Typed : Context → ℕ → Type 0

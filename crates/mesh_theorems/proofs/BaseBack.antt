@@ -5,7 +5,7 @@ use lib.ListN.{drop, getD, length, length-append, replicate}
 use mathlib.Core.Bool.{true}
 use mathlib.Core.List.{List, [], _∷_, _++_, append-assoc, append-nil, map}
 use mathlib.Core.Path.{_≡_, refl, subst, sym, _∙_}
-use native.Mathlib.Nat.{add-zero}
+use native.Mathlib.Nat.{add-zero, zero-add}
 use native.Mathlib.Omega.{arith}
 use borrow.Author.Tests.{le-ltb}
 use Rattle.fields.specs.Limits.{anyNumber, largestCount}
@@ -13,10 +13,11 @@ use Rattle.fields.specs.Judged.{done}
 use Rattle.mesh.specs.Run.{unjudged}
 use Rattle.mesh.specs.Faces.{facesOf}
 use Rattle.mesh.specs.Base.{Mesh, baseCount, baseOf, baseRules, hasRoom, headOf, poolWords, poolsAt, smaller}
+use Rattle.fields_theorems.proofs.Seams.{past}
+use Rattle.fields_theorems.proofs.FieldsBack.{after-name, after-words, length-wordBytes, name-back, name-part, same-name}
 use Rattle.mesh_theorems.specs.Encoding.{All, Stated, UpTo, Words, baseBytes, poolBytes, wordBytes}
-use Rattle.mesh_theorems.proofs.FieldsBack.{Kept, Keeps, after-name, after-words, keeps-words, length-wordBytes}
-use Rattle.mesh_theorems.proofs.FieldsBack.{name-back, name-part, run-back, same-name}
-use Rattle.mesh_theorems.proofs.Seams.{past, values-at}
+use Rattle.mesh_theorems.proofs.FieldsBack.{Kept, Keeps, keeps-words, run-back}
+use Rattle.mesh_theorems.proofs.Seams.{values-at}
 
 -- ---- the head
 
@@ -59,9 +60,9 @@ head-back name m coded h =
     let s = baseBytes name m coded in
     let rest = poolBytes (m .pools) ++ coded in
     let fields = wordBytes (0 ∷ m .counts) ++ rest in
-    let named = name-back s name fields (h .declared .short) refl in
-    let part = name-part s name fields (h .declared .short) refl in
-    let here : drop (length name + 2) s ≡ fields = after-name s name fields refl in
+    let named = name-back s name fields 0 (h .declared .short) refl in
+    let part = name-part s name fields 0 (h .declared .short) refl in
+    let here : drop (length name + 2) s ≡ fields = rw zero-add at (after-name s name fields 0 refl) in
     let read = run-back (baseRules (m .declaration)) s (0 ∷ m .counts) rest (length name + 2) (head-kept name m h) here in
     let counts = values-at (0 ∷ m .counts) (m .counts) [] 1 6 (sym (append-nil (m .counts))) (h .six) in
     rw (named, part, same-name name, read, counts)
@@ -74,7 +75,7 @@ after-head name m coded h =
     let s = baseBytes name m coded in
     let rest = poolBytes (m .pools) ++ coded in
     let e : length name + 2 + 28 ≡ length name + 30 = omega arith in
-    let here = after-name s name (wordBytes (0 ∷ m .counts) ++ rest) refl in
+    let here = rw zero-add at (after-name s name (wordBytes (0 ∷ m .counts) ++ rest) 0 refl) in
     rw (← e) (after-words s (0 ∷ m .counts) rest (length name + 2) 28 here (omega (arith, h .six)))
 
 -- ---- the pools

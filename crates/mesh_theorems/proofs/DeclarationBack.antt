@@ -3,6 +3,7 @@ use Prim.Native.Nat.{ℕ, _+_, _*_, _≤_}
 use lib.ListN.{drop, getD, length, length-append, replicate}
 use mathlib.Core.List.{List, [], _∷_, _++_, append-nil}
 use mathlib.Core.Path.{_≡_, ap, refl, sym, _∙_}
+use native.Mathlib.Nat.{zero-add}
 use native.Mathlib.Omega.{arith}
 use borrow.Author.Tests.{le-ltb}
 use Rattle.fields.specs.Limits.{largestCount, largestFile}
@@ -11,11 +12,12 @@ use Rattle.mesh.specs.Run.{filled, limited, unjudged, valuesOf}
 use Rattle.mesh.specs.Shading.{noShading, shadingLimit, shadingsAt}
 use Rattle.mesh.specs.Declaration.{closingRules, declarationOf, declarationWith, meshName, openingRules}
 use Rattle.mesh.specs.declared.declaration.Declaration.{Declaration}
+use Rattle.fields_theorems.proofs.Seams.{first-at, past}
+use Rattle.fields_theorems.proofs.FieldsBack.{after-name, after-words, length-nameBytes, length-wordBytes, name-back, name-part, two-runs}
 use Rattle.mesh_theorems.specs.Encoding.{Declarable, closingFields, declarationBytes, declarationFields, nameBytes, openingFields}
 use Rattle.mesh_theorems.specs.Encoding.{shadingsFields, statedShadings, wordBytes}
-use Rattle.mesh_theorems.proofs.FieldsBack.{Keeps, after-name, after-words, keeps-all, keeps-append, keeps-words, length-nameBytes}
-use Rattle.mesh_theorems.proofs.FieldsBack.{length-wordBytes, name-back, name-part, part-back, run-back, two-runs}
-use Rattle.mesh_theorems.proofs.Seams.{first-at, past, values-at}
+use Rattle.mesh_theorems.proofs.FieldsBack.{Keeps, keeps-all, keeps-append, keeps-words, part-back, run-back}
+use Rattle.mesh_theorems.proofs.Seams.{values-at}
 use Rattle.mesh_theorems.proofs.ShadingsBack.{length-shadings, shadings-back}
 
 -- from the normal parameters on, and from the inverse quants on
@@ -131,7 +133,7 @@ declaration-back name d h =
     let words = wordBytes (declarationFields d) in
     let opening-at = length name + 2 in
     let closing-at = length name + 38 + 4 * length shadings in
-    let opening-here = after-name s name words refl ∙ sym (append-nil words) in
+    let opening-here = rw zero-add at (after-name s name words 0 refl) ∙ sym (append-nil words) in
     let opening-size : 4 * length opening ≡ 36 = omega (arith, length-opening name d h) in
     let e : opening-at + 36 ≡ length name + 38 = omega arith in
     let opened = part-back openingRules s opening (shadings ++ closing) [] opening-at 36 (opening-kept name d h) opening-size opening-here in
@@ -141,7 +143,7 @@ declaration-back name d h =
     ∙ shadings-back s (wordBytes closing ++ []) (length name + 38) (statedShadings d) (h .shaded) shadings-here in
     let closing-here = after-words s shadings (wordBytes closing ++ []) (length name + 38) (4 * length shadings) shadings-here refl in
     let closed = run-back closingRules s closing [] closing-at (closing-kept name d h) closing-here in
-    let named = name-back s name words (h .short) refl in
+    let named = name-back s name words 0 (h .short) refl in
     let sized = le-ltb largestFile (length s) (declaration-sized name d h) in
     let ended = le-ltb (closing-at + 56) (length s) (omega (arith, length-declaration name d h)) in
     rw (sized, named, opened .0, shaded, closed, ended, with-back name d h)
@@ -151,4 +153,4 @@ pub declaration-name : (name : List ℕ) (d : Declaration) → Declarable name d
 unfolding meshName declarationBytes
 declaration-name name d h =
     let s = declarationBytes name d in
-    rw (le-ltb largestFile (length s) (declaration-sized name d h)) (name-part s name (wordBytes (declarationFields d)) (h .short) refl)
+    rw (le-ltb largestFile (length s) (declaration-sized name d h)) (name-part s name (wordBytes (declarationFields d)) 0 (h .short) refl)

@@ -8,15 +8,12 @@ use native.Mathlib.Omega.{arith}
 use borrow.Author.Tests.{lt-leb}
 use lib.Dec.{ltb}
 use lib.ListN.{drop, getD, length, take, take-append-drop}
-use Rattle.fields.specs.Limits.{largestCount}
+use Rattle.fields.specs.Limits.{largestCount, largestFile}
 use Rattle.fields.specs.Judged.{Judged, done, pick}
 use Rattle.coder.specs.Histogram.{freshHistogram}
 use Rattle.coder.specs.Interval.{fresh}
-use Rattle.coder.specs.Reading.{Taken}
-use Rattle.coder.specs.Writing.{end, freshWriter}
 use Rattle.coder.specs.declared.interval.Coder.{Coder}
-use Rattle.coder_theorems.specs.Runs.{AllDone, AllTyped, Histograms, Number, ReadCall, WriteCall}
-use Rattle.coder_theorems.specs.Runs.{bytesAfter, callRead, contextOf, readBack, readCalls, writeCalls, writerAfter}
+use Rattle.coder_theorems.specs.Runs.{AllKeep, AllTyped, Called, Histograms, Number, ReadCall, Step, afterSteps, begun, callRead, contextIn, endCall, numberIn, readBack, readCalls, takenCalls, writeCalls}
 use Rattle.coder_theorems.proofs.RoundTrip.{round-trip}
 use Rattle.mesh.specs.Shading.{shadingLimit}
 use Rattle.mesh.specs.Corners.{absent, cornerFields, faceWords, fieldContext, formOf, present, rangeOf, shadingContext}
@@ -40,17 +37,15 @@ first-given : (r : ReadCall) (v : ℕ) (t : Coder) (hs : Histograms)
     → codedNumber (r .result) ≡ done (record { value = v; state = r .result .state })
 first-given r v t hs e = rw e
 
-calls-give : (d : List ℕ) (ns : List Number) (s : Coder) (hs : Histograms) (calls : List WriteCall)
-    → readCalls d s hs (map contextOf ns) ≡ readBack ns calls → Gives d s hs ns
-unfolding readCalls readBack Gives
-calls-give d [] s hs calls e = tt
-calls-give d (x ∷ xs) s hs [] e = let z : _≡_ {A = ℕ} 0 1 = cc in absurd (omega arith)
-calls-give d (x ∷ xs) s hs (c ∷ calls) e =
-    let r = callRead d s hs (x .context) in
-    let given : Taken = record { number = 0; done = true; value = x .value; state = c .result .writer .coder } in
-    let first : r ≡ record { result = given; histograms = c .histograms } = cc in
-    let rest : readCalls d (r .result .state) (r .histograms) (map contextOf xs) ≡ readBack xs calls = cc in
-    (first-given r (x .value) _ _ first, calls-give d xs (r .result .state) (r .histograms) calls rest)
+calls-give : (d : List ℕ) (took : List Called) (s : Coder) (hs : Histograms)
+    → readCalls d s hs (map contextIn took) ≡ map readBack took → Gives d s hs (map numberIn took)
+unfolding readCalls Gives
+calls-give d [] s hs e = tt
+calls-give d (c ∷ took) s hs e =
+    let r = callRead d s hs (c .number .context) in
+    let first : r ≡ readBack c = cc in
+    let rest : readCalls d (r .result .state) (r .histograms) (map contextIn took) ≡ map readBack took = cc in
+    (first-given r (c .number .value) _ _ first, calls-give d took (r .result .state) (r .histograms) rest)
 
 -- ---- a field
 
@@ -150,16 +145,17 @@ module _ (declaration : Declaration) (counts : List ℕ) (few : declaration .«s
       typed-append (faceNumbers declaration counts own) (facesNumbers declaration counts left rest)
       (face-typed own (b .0)) (faces-typed left rest (b .1))
 
--- Face records within the mesh, whose numbers the writer all wrote, and then ended, are read back from the bytes that the end says are used.
-pub faces-read-back : (declaration : Declaration) (counts : List ℕ) (n : ℕ) (words l : List ℕ) → FacesBelow declaration counts n words
-    → declaration .«shading_count» ≤ shadingLimit → ((i : ℕ) → getD counts i 0 ≤ largestCount)
-    → (let numbers = facesNumbers declaration counts n words in
-    let calls = writeCalls l freshWriter (freshHistogram ∷ []) numbers in
-    let ended = end (bytesAfter l calls) (writerAfter freshWriter calls) in
-    AllDone calls → ended .number ≡ 0 → facesOf declaration counts n (take (ended .used) (ended .bytes)) ≡ done words)
+-- Faces whose numbers the coder's writer took, in whatever buffers, and ended are read back, whatever follows them.
+pub faces-read-back : (declaration : Declaration) (counts : List ℕ) (n : ℕ) (words : List ℕ) (steps : List Step) (buffer rest : List ℕ)
+    → FacesBelow declaration counts n words → declaration .«shading_count» ≤ shadingLimit → ((i : ℕ) → getD counts i 0 ≤ largestCount)
+    → (let start = begun buffer (freshHistogram ∷ []) in
+    let ended = endCall (afterSteps start steps) in
+    let d = take (ended .used) (ended .bytes) ++ rest in
+    AllKeep start steps → map numberIn (takenCalls (writeCalls start steps)) ≡ facesNumbers declaration counts n words → ended .number ≡ 0
+    → length d ≤ largestFile → facesOf declaration counts n d ≡ done words)
 unfolding facesOf
-faces-read-back declaration counts n words l b few small a e =
-    let numbers = facesNumbers declaration counts n words in
+faces-read-back declaration counts n words steps buffer rest b few small keep coded e short =
     let hs = freshHistogram ∷ [] in
-    let back = round-trip numbers hs l (faces-typed declaration counts few small n words b) a e in
-    faces-back declaration counts n words _ fresh hs b (calls-give _ numbers fresh hs _ back)
+    let took = takenCalls (writeCalls (begun buffer hs) steps) in
+    let back = round-trip steps hs buffer rest (rw coded (faces-typed declaration counts few small n words b)) keep e short in
+    faces-back declaration counts n words _ fresh hs b (rw coded at (calls-give _ took fresh hs back))

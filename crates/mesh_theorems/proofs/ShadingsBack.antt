@@ -9,8 +9,10 @@ use Rattle.fields.specs.Judged.{done}
 use Rattle.mesh.specs.Run.{unjudged}
 use Rattle.mesh.specs.Shading.{layerLimit, shadingAt, shadingRules, shadingsAt}
 use Rattle.mesh.specs.declared.shading.Shading.{Shading}
-use Rattle.mesh_theorems.specs.Encoding.{All, Shadeable, bytesOf, shadingFields, shadingsFields, wordBytes}
-use Rattle.mesh_theorems.proofs.FieldsBack.{Keeps, after-words, field-back, keeps-words, part-back, two-runs}
+use Rattle.fields_theorems.specs.Encoding.{bytesOf, wordBytes}
+use Rattle.fields_theorems.proofs.FieldsBack.{after-words, field-back, two-runs}
+use Rattle.mesh_theorems.specs.Encoding.{All, Shadeable, shadingFields, shadingsFields}
+use Rattle.mesh_theorems.proofs.FieldsBack.{Keeps, keeps-words, part-back}
 
 -- the numbers of a shading: three, and one for each layer
 length-shading : (sh : Shading) → Shadeable sh → length (shadingFields sh) ≡ sh .«layer_count» + 3

@@ -1,40 +1,40 @@
--- No coded face is answered 9 or 18, and no mesh 18: a reader that begins fresh goes from states that it takes to states that it takes, as
--- long as its bits can be counted, and a face has few bits.
+-- Coded faces are refused with 1 or 10 only, and a mesh with one of its numbers: a reader that begins fresh goes from states that it takes to
+-- states that it takes, as long as its bits can be counted, and a face has few bits.
 use Prim.Native.Nat.{ℕ, zero, suc, _+_, _*_, _%_, _^_, _≤_, _<_}
-use mathlib.Core.Bool.{Bool, true, false, not}
+use mathlib.Core.Bool.{Bool, true, false, _||_, not}
 use mathlib.Core.List.{List, [], _∷_}
 use mathlib.Core.Path.{_≡_, refl}
 use native.Mathlib.Omega.{arith}
-use borrow.Author.Tests.{ltb-false}
-use lib.Dec.{leb, ltb}
+use borrow.Author.Tests.{eqb-true, ltb-false}
+use lib.Dec.{eqb, leb, ltb}
 use lib.ListN.{drop, getD, length, length-drop}
 use Rattle.fields.specs.Limits.{largestCount, largestFile}
-use Rattle.fields.specs.Numbers.{badState, noRoom, outOfRange, overLimit}
+use Rattle.fields.specs.Numbers.{noRoom, outOfRange, overLimit, truncated}
 use Rattle.fields.specs.Judged.{Judged, done, refused, onDone, pick, refusedIf}
 use Rattle.fields.proofs.Judging.{passed}
 use Rattle.coder.specs.Histogram.{freshHistogram, histogramFormed, sum}
 use Rattle.coder.specs.Interval.{fresh}
 use Rattle.coder.specs.Reading.{Taken}
 use Rattle.coder.specs.declared.interval.Coder.{Coder}
-use Rattle.coder_theorems.specs.Runs.{AllFormed, Histograms, callRead, mostBits, static}
+use Rattle.coder_theorems.specs.Runs.{AllFormed, Histograms, NoFault, callRead, isOn, mostBits, static}
 use Rattle.coder_theorems.proofs.Steady.{Sound, Steady, fresh-steady, went}
 use Rattle.mesh.specs.Declaration.{declarationOf, meshName}
 use Rattle.mesh.specs.Corners.{absent, cornerFields, fieldContext, formOf, present, shadingContext}
 use Rattle.mesh.specs.Faces.{Coded, codedNumber, cornersFrom, faceFrom, facesFrom, facesOf, fieldFrom, placedAt, shadingFrom}
-use Rattle.mesh.specs.Base.{InPart, baseOf, hasRoom, headOf, inPart, meshOf, poolWords, poolsAt, read, refusedIn, sized}
+use Rattle.mesh.specs.Base.{InPart, baseOf, hasRoom, headOf, inPart, meshNumbers, meshOf, poolWords, poolsAt, read, refusedIn, sized}
 use Rattle.mesh.specs.declared.declaration.Declaration.{Declaration}
 use Rattle.mesh.specs.declared.faces.CornerForm.{CornerForm}
 use Rattle.mesh.specs.declared.base.Part.{Part}
 use Rattle.mesh.specs.declared.base.Part as part
-use Rattle.mesh.proofs.Refusals.{Numbered, declaration-numbered, head-numbered, pools-numbered, sized-numbered}
+use Rattle.mesh.proofs.Refusals.{Listed, Numbered, after, declaration-numbered, head-numbered, pools-numbered, sized-numbered, unless}
 use Rattle.mesh_theorems.proofs.SmallCounts.{counts-small}
 
 -- ---- judging that stays steady
 
--- a value leaves a state that the reader takes, of so many bits; a refusal is neither 9 nor 18
+-- a value leaves a state that the reader takes, of so many bits; a refusal is 1 or 10
 abbrev Goes : {A : Type 0} → List ℕ → ℕ → Judged (Coded A) → Type 0
 Goes d most (done c) = Steady d (c .state) most
-Goes d most (refused k p) = Sound k
+Goes d most (refused k p) = NoFault false k
 
 later : {d : List ℕ} {s : Coder} {used : ℕ} (most : ℕ) → Steady d s used → used ≤ most → Steady d s most
 later most st h = record { small = st .small; reading = st .reading; inverted = st .inverted; few = omega (arith, st .few) }
@@ -44,20 +44,17 @@ goes-on : {A B : Type 0} (d : List ℕ) (used most : ℕ) (j : Judged (Coded A))
 goes-on d used most (done c) next g f = f c g
 goes-on d used most (refused k p) next g f = g
 
-number-goes : (d : List ℕ) (most : ℕ) (t : Taken) → Steady d (t .state) most → Sound (t .number) → Goes d most (codedNumber t)
-number-goes d most t st sound = go (t .done)
+number-goes : (d : List ℕ) (most : ℕ) (t : Taken) → Steady d (t .state) most → Sound t → Goes d most (codedNumber t)
+number-goes d most t st sound = go (t .done) sound
   where
-    go : (b : Bool) → Goes d most (pick b (done (record { value = t .value; state = t .state })) (refused (t .number) 0))
-    go true = st
-    go false = sound
+    go : (b : Bool) → NoFault b (t .number) → Goes d most (pick b (done (record { value = t .value; state = t .state })) (refused (t .number) 0))
+    go true e = st
+    go false e = e
 
-out-of-range : Sound outOfRange
-out-of-range = (λ e. omega (arith, e), λ e. omega (arith, e))
-
--- a refusal is neither 9 nor 18
+-- a refusal is 1 or 10
 abbrev SoundIf : {A : Type 0} → Judged A → Type 0
 SoundIf (done a) = Unit {0}
-SoundIf (refused k p) = Sound k
+SoundIf (refused k p) = NoFault false k
 
 sound-done : {A B : Type 0} (j : Judged A) (v : A → B) → SoundIf j → SoundIf (onDone j λ a. done (v a))
 sound-done (done a) v s = tt
@@ -116,7 +113,7 @@ module _ (d : List ℕ) where
         (corners-go form most (3 * cornerFields) 0 (shading .state) mid on (omega arith) few) λ corners on′. on′
       where
         judged : (mid : ℕ) (shading : Coded ℕ) → Steady d (shading .state) mid → (b : Bool) → Goes d mid (refusedIf b outOfRange 0 (done shading))
-        judged mid shading on true = out-of-range
+        judged mid shading on true = refl
         judged mid shading on false = on
 
     faces-go : (most n : ℕ) (hs : Histograms) (s : Coder) (used : ℕ) → Steady d s used → AllFormed hs → 0 < length hs → used + faceBits * n ≤ most
@@ -135,9 +132,9 @@ module _ (d : List ℕ) where
         sound-on (done c) next g f = f c g
         sound-on (refused k p) next g f = g
 
--- Whatever the bytes are, up to 16 MiB, coded faces, up to 65,536, are never refused with 9 or 18.
+-- Whatever the bytes are, up to 16 MiB, coded faces, up to 65,536, are refused with 1 or 10 only, never with 9 or 18.
 pub faces-sound : (declaration : Declaration) (counts : List ℕ) (n : ℕ) (d : List ℕ) → n ≤ largestCount → length d ≤ largestFile
-    → (k p : ℕ) → facesOf declaration counts n d ≡ refused k p → (k ≡ overLimit → ⊥) × (k ≡ badState → ⊥)
+    → (k p : ℕ) → facesOf declaration counts n d ≡ refused k p → isOn (truncated ∷ outOfRange ∷ []) k ≡ true
 unfolding facesOf
 faces-sound declaration counts n d few small k p e =
     let hs = freshHistogram ∷ [] in
@@ -146,66 +143,56 @@ faces-sound declaration counts n d few small k p e =
 
 -- ---- a mesh
 
--- A refusal is not 18.
-abbrev NotBad : {A : Type 0} → Judged A → Type 0
-NotBad (done a) = Unit {0}
-NotBad (refused k p) = k ≡ badState → ⊥
+-- 1 and 10 are numbers of a mesh
+face-listed : (k : ℕ) → isOn (truncated ∷ outOfRange ∷ []) k ≡ true → Listed k
+face-listed k e = go (eqb k truncated) (eqb k outOfRange) refl refl e
+  where
+    go : (a b : Bool) → eqb k truncated ≡ a → eqb k outOfRange ≡ b → (a || (b || false)) ≡ true → Listed k
+    go true b f g e = let one : k ≡ truncated = eqb-true _ _ f in rw one
+    go false true f g e = let ten : k ≡ outOfRange = eqb-true _ _ g in rw ten
+    go false false f g e = let z : _≡_ {A = ℕ} 0 1 = cc in absurd (omega arith)
 
-not-bad : {A : Type 0} (j : Judged A) → Numbered j → NotBad j
-not-bad (done a) h = tt
-not-bad (refused k p) h = λ e. absurd (omega (arith, h, e))
+placed-numbered : (place : ℕ) (j : Judged (List ℕ)) → ((k p : ℕ) → j ≡ refused k p → Listed k) → Numbered (placedAt place j)
+placed-numbered place (done a) f = tt
+placed-numbered place (refused k p) f = f k p refl
 
--- Where neither a value nor what follows from it is refused with 18, both together are not.
-not-bad-on : {A B : Type 0} (j : Judged A) (next : A → Judged B) → NotBad j → ((a : A) → j ≡ done a → NotBad (next a)) → NotBad (onDone j next)
-not-bad-on (done a) next g f = f a refl
-not-bad-on (refused k p) next g f = g
-
--- Nor is a test whose own number is another, with what follows it.
-not-bad-if : {A : Type 0} (test : Bool) (n p : ℕ) (j : Judged A) → (n ≡ badState → ⊥) → NotBad j → NotBad (refusedIf test n p j)
-not-bad-if true n p j h g = h
-not-bad-if false n p j h g = g
-
-placed-not-bad : (place : ℕ) (j : Judged (List ℕ)) → ((k p : ℕ) → j ≡ refused k p → k ≡ badState → ⊥) → NotBad (placedAt place j)
-placed-not-bad place (done a) f = tt
-placed-not-bad place (refused k p) f = f k p refl
-
-base-not-bad : (s name : List ℕ) (declaration : Declaration) (lengths : List ℕ) → length s ≤ largestFile
-    → NotBad (baseOf s name declaration lengths)
+base-numbered : (s name : List ℕ) (declaration : Declaration) (lengths : List ℕ) → length s ≤ largestFile
+    → Numbered (baseOf s name declaration lengths)
 unfolding baseOf
-base-not-bad s name declaration lengths small =
-    not-bad-on (headOf s name declaration) _ (not-bad (headOf s name declaration) (head-numbered s name declaration)) λ head e.
+base-numbered s name declaration lengths small =
+    after (headOf s name declaration) _ (head-numbered s name declaration) λ head e.
     let counts = head .value in
     let n = getD counts 0 0 in
-    not-bad-if (not (hasRoom lengths counts)) noRoom 0 _ (λ e. omega (arith, e))
-    (not-bad-on (poolsAt (poolWords counts) s (head .next)) _ (not-bad (poolsAt (poolWords counts) s (head .next)) (pools-numbered (poolWords counts) s (head .next))) λ pools f.
+    unless (not (hasRoom lengths counts)) noRoom 0 _ refl
+    (after (poolsAt (poolWords counts) s (head .next)) _ (pools-numbered (poolWords counts) s (head .next)) λ pools f.
     let rest = drop (pools .next) s in
     let within : length rest ≤ largestFile = simp length-drop (omega arith) in
-    not-bad-on (placedAt (pools .next) (facesOf declaration counts n rest)) _
-    (placed-not-bad (pools .next) (facesOf declaration counts n rest) λ k p g.
-    faces-sound declaration counts n rest (counts-small s name declaration head e 0) within k p g .1) λ faces g. tt)
+    after (placedAt (pools .next) (facesOf declaration counts n rest)) _
+    (placed-numbered (pools .next) (facesOf declaration counts n rest) λ k p g.
+    face-listed k (faces-sound declaration counts n rest (counts-small s name declaration head e 0) within k p g)) λ faces g. tt)
 
 -- the same of an answer with its part
-abbrev PartNotBad : {A : Type 0} → InPart A → Type 0
-PartNotBad (read a) = Unit {0}
-PartNotBad (refusedIn q k p) = k ≡ badState → ⊥
+abbrev PartNumbered : {A : Type 0} → InPart A → Type 0
+PartNumbered (read a) = Unit {0}
+PartNumbered (refusedIn q k p) = Listed k
 
-part-not-bad : {A B : Type 0} (q : Part) (j : Judged A) (next : A → InPart B) → NotBad j → ((a : A) → j ≡ done a → PartNotBad (next a))
-    → PartNotBad (inPart q j next)
-part-not-bad q (done a) next g f = f a refl
-part-not-bad q (refused k p) next g f = g
+part-numbered : {A B : Type 0} (q : Part) (j : Judged A) (next : A → InPart B) → Numbered j → ((a : A) → j ≡ done a → PartNumbered (next a))
+    → PartNumbered (inPart q j next)
+part-numbered q (done a) next g f = f a refl
+part-numbered q (refused k p) next g f = g
 
 sized-small : (s : List ℕ) (u : Unit {0}) → sized s ≡ done u → length s ≤ largestFile
 sized-small s u e = ltb-false largestFile (length s) (passed (ltb largestFile (length s)) overLimit 0 _ u e .0)
 
-whole-not-bad : (d s lengths : List ℕ) → PartNotBad (meshOf d s lengths)
+whole-numbered : (d s lengths : List ℕ) → PartNumbered (meshOf d s lengths)
 unfolding meshOf
-whole-not-bad d s lengths =
-    part-not-bad part.the-variants.Declaration (sized d) _ (not-bad (sized d) (sized-numbered d)) λ u e.
-    part-not-bad part.the-variants.Continuation (sized s) _ (not-bad (sized s) (sized-numbered s)) λ v f.
-    part-not-bad part.the-variants.Declaration (declarationOf d) _ (not-bad (declarationOf d) (declaration-numbered d)) λ declaration g.
-    part-not-bad part.the-variants.Continuation (baseOf s (meshName d) declaration lengths) _
-    (base-not-bad s (meshName d) declaration lengths (sized-small s v f)) λ m h. tt
+whole-numbered d s lengths =
+    part-numbered part.the-variants.Declaration (sized d) _ (sized-numbered d) λ u e.
+    part-numbered part.the-variants.Continuation (sized s) _ (sized-numbered s) λ v f.
+    part-numbered part.the-variants.Declaration (declarationOf d) _ (declaration-numbered d) λ declaration g.
+    part-numbered part.the-variants.Continuation (baseOf s (meshName d) declaration lengths) _
+    (base-numbered s (meshName d) declaration lengths (sized-small s v f)) λ m h. tt
 
--- Whatever is lent, no mesh is refused with 18.
-pub mesh-sound : (d s lengths : List ℕ) (q : Part) (n p : ℕ) → meshOf d s lengths ≡ refusedIn q n p → n ≡ badState → ⊥
-mesh-sound d s lengths q n p e = rw e at (whole-not-bad d s lengths)
+-- Whatever is lent, a mesh that is refused has one of 01's numbers 1, 8, 9, 10, 11, 12 and 17: never 0, and never 18.
+pub mesh-sound : (d s lengths : List ℕ) (q : Part) (n p : ℕ) → meshOf d s lengths ≡ refusedIn q n p → isOn meshNumbers n ≡ true
+mesh-sound d s lengths q n p e = rw e at (whole-numbered d s lengths)

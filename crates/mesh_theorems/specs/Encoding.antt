@@ -1,31 +1,16 @@
 -- How a declaration and a base mesh within 01's limits are laid out in bytes. Nothing here is read by a program: the theorems say that what is
 -- laid out so is read back.
-use Prim.Native.Nat.{ℕ, zero, suc, _/_, _%_, _≤_, _<_}
+use Prim.Native.Nat.{ℕ, _≤_, _<_}
 use mathlib.Core.List.{List, [], _∷_, _++_, map}
 use mathlib.Core.Path.{_≡_}
 use lib.ListN.{getD, length, take}
 use Rattle.fields.specs.Limits.{anyNumber, largestCount, longestName}
+pub use Rattle.fields_theorems.specs.Encoding.{nameBytes, wordBytes}
 use Rattle.mesh.specs.Run.{filled}
 use Rattle.mesh.specs.Shading.{layerLimit, noShading, shadingLimit}
 use Rattle.mesh.specs.Base.{Mesh, poolWords}
 use Rattle.mesh.specs.declared.shading.Shading.{Shading}
 use Rattle.mesh.specs.declared.declaration.Declaration.{Declaration}
-
--- ---- bytes
-
--- the lowest n bytes of a number: "Little-endian"
-unfoldable pub bytesOf : ℕ → ℕ → List ℕ
-bytesOf zero v = []
-bytesOf (suc n) v = v % 256 ∷ bytesOf n (v / 256)
-
--- numbers, each as a U32
-unfoldable pub wordBytes : List ℕ → List ℕ
-wordBytes [] = []
-wordBytes (v ∷ vs) = bytesOf 4 v ++ wordBytes vs
-
--- "name (U16 length, bytes)"
-unfoldable pub nameBytes : List ℕ → List ℕ
-nameBytes name = bytesOf 2 (length name) ++ name
 
 -- ---- a declaration: "fields in the order of clause 9.6.1, from name to bone count"
 

@@ -15,7 +15,7 @@ use Rattle.mesh.specs.declared.declaration.Declaration.{Declaration}
 use Rattle.mesh.specs.declared.declaration.DeclarationRead.{DeclarationRead}
 use Rattle.oysterfold.specs.Result.{numberOf}
 use Rattle.oysterfold.specs.Declaration.{Fields, declarationIn, declarationResult, fieldCount, fieldsAfter, fieldsIn, fieldsOf, fieldsWords, nameEnd, nameOffset, resultWords, wordsAt}
-use Rattle.mesh.proofs.Refusals.{Numbered}
+use Rattle.mesh.proofs.Refusals.{Numbered, listed-some}
 use Rattle.oysterfold.proofs.Words.{words-more, words-none}
 
 -- ---- fields as words
@@ -78,7 +78,7 @@ module _ (s table result : List ℕ) (size : ℕ) where
 module _ (r : DeclarationRead) where
   pub read-by : (j : Judged Declaration) → Numbered j → r ≡ declarationRead j → r .number ≡ 0 → j ≡ done (r .declaration)
   read-by (done d) h e z = ap (λ (x : DeclarationRead). done (x .declaration)) (sym e)
-  read-by (refused n p) h e z = let m : r .number ≡ n = ap (λ (x : DeclarationRead). x .number) e in absurd (omega (arith, h))
+  read-by (refused n p) h e z = let m : r .number ≡ n = ap (λ (x : DeclarationRead). x .number) e in absurd (listed-some n h (sym m ∙ z))
 
   pub refused-by : (j : Judged Declaration) → r ≡ declarationRead j → (r .number ≡ 0 → ⊥) → j ≡ refused (r .number) (r .place)
   refused-by (done d) e z = absurd (z (ap (λ (x : DeclarationRead). x .number) e))

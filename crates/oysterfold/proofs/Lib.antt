@@ -9,3 +9,4 @@ pub mod WriteAnswers
 pub mod ReadAnswers
 pub mod Widths
 pub mod Contexts
+pub mod Returned

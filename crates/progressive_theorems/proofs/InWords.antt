@@ -96,6 +96,16 @@ module _ (t : List ℕ) (shadings : ℕ) (base : Mesh) where
       let zero-level : levelEnd t shadings base 0 calls ≡ 0 = omega (arith, level-counted calls 0) in
       mesh-end calls 0 ∙ ap (meshAt t base) zero-level
 
+  -- k is the ups granted less the downs granted
+  mesh-counted : (calls : List Call)
+      → meshEnd base (tally t shadings base 0 calls)
+      ≡ meshAt t base (upsGranted calls (tally t shadings base 0 calls) - downsGranted calls (tally t shadings base 0 calls))
+  unfolding meshAt
+  mesh-counted calls =
+      let same : levelEnd t shadings base 0 calls ≡ upsGranted calls (tally t shadings base 0 calls) - downsGranted calls (tally t shadings base 0 calls) =
+      omega (arith, level-counted calls 0) in
+      mesh-end calls 0 ∙ ap (meshAt t base) same
+
 module _ (d s : List ℕ) (before after : Tables) (counts : MeshCounts) (e : answered (meshOf d s (lengthsOf before)) ≡ read counts)
     (f : after ≡ tablesAfter (meshOf d s (lengthsOf before)) before) (steps : List ℕ) (states : States steps counts) (calls : List Call) where
   abbrev start : Mesh
@@ -121,3 +131,9 @@ module _ (d s : List ℕ) (before after : Tables) (counts : MeshCounts) (e : ans
   pub every-number-back : upsGranted calls (replies steps shadings start calls) ≡ downsGranted calls (replies steps shadings start calls)
       → meshEnd start (replies steps shadings start calls) ≡ start
   every-number-back = rw (follows calls) (back-at-base steps shadings start calls)
+
+  -- After any list of calls, tables and counts are the base mesh with the list's first k steps laid on it, k being the ups granted less the
+  -- downs granted.
+  pub ups-less-downs : meshEnd start (replies steps shadings start calls)
+      ≡ meshAt steps start (upsGranted calls (replies steps shadings start calls) - downsGranted calls (replies steps shadings start calls))
+  ups-less-downs = rw (follows calls) (mesh-counted steps shadings start calls)

@@ -1,35 +1,29 @@
 -- 01's whole example of a climb text is read to the example list of the table. By computing.
 use mathlib.Core.Path.{_≡_, refl}
-use mathlib.Core.List.{List, [], _∷_, _++_}
+use mathlib.Core.List.{List, [], _∷_}
 use Prim.Native.Nat.{ℕ}
 use Rattle.fields.specs.Judged.{done}
 use Rattle.fields.specs.Name.{same}
-use Rattle.text.specs.Digits.{digitsOf}
 use Rattle.climb.specs.Digits.{areDigits, isDecimal, isPattern, valueAfter}
-use Rattle.climb.specs.Lines.{fieldOf, fieldsAfter, has, lineFeed, past, rowFrom, tab, until}
-use Rattle.climb.specs.Climb.{climbOf, endForm, faceForm, headForm, itemsFrom, moveForm, splitForm, stepFrom}
+use Rattle.climb.specs.Lines.{fieldOf, fieldsAfter, has, past, rowFrom, until}
+use Rattle.climb.specs.Climb.{climbOf, itemsFrom, stepFrom}
 use Rattle.worked_examples.specs.Row.{exampleList}
 
--- a line of the text: a word, and each number after a tab
-line : List ℕ → List (List ℕ) → List ℕ
-line word [] = word ++ (lineFeed ∷ [])
-line word (field ∷ fields) = line (word ++ (tab ∷ field)) fields
-
-digit : ℕ → List ℕ
-digit n = digitsOf 10 1 n
-
-bits : ℕ → List ℕ
-bits n = digitsOf 16 8 n
-
--- 01's whole example
+-- 01's whole example, byte by byte
 text : List ℕ
 text =
-    line (headForm .word) (digit 1 ∷ digit 3 ∷ digit 1 ∷ [])
-    ++ line (splitForm .word) (digit 2 ∷ bits 0x3f800000 ∷ bits 0 ∷ bits 0xbf800000 ∷ [])
-    ++ line (moveForm .word) (digit 0 ∷ digit 2 ∷ [])
-    ++ line (faceForm .word) (digit 1 ∷ digit 1 ∷ digit 2 ∷ digit 3 ∷ [])
-    ++ line (endForm 1 .word) (digit 1 ∷ [])
+    -- climb 1 3 1
+    0x63 ∷ 0x6C ∷ 0x69 ∷ 0x6D ∷ 0x62 ∷ 0x09 ∷ 0x31 ∷ 0x09 ∷ 0x33 ∷ 0x09 ∷ 0x31 ∷ 0x0A ∷
+    -- split 2 3f800000 00000000 bf800000
+    0x73 ∷ 0x70 ∷ 0x6C ∷ 0x69 ∷ 0x74 ∷ 0x09 ∷ 0x32 ∷ 0x09 ∷ 0x33 ∷ 0x66 ∷ 0x38 ∷ 0x30 ∷ 0x30 ∷ 0x30 ∷ 0x30 ∷ 0x30 ∷ 0x09 ∷ 0x30 ∷ 0x30 ∷ 0x30 ∷ 0x30 ∷ 0x30 ∷ 0x30 ∷ 0x30 ∷ 0x30 ∷ 0x09 ∷ 0x62 ∷ 0x66 ∷ 0x38 ∷ 0x30 ∷ 0x30 ∷ 0x30 ∷ 0x30 ∷ 0x30 ∷ 0x0A ∷
+    -- move 0 2
+    0x6D ∷ 0x6F ∷ 0x76 ∷ 0x65 ∷ 0x09 ∷ 0x30 ∷ 0x09 ∷ 0x32 ∷ 0x0A ∷
+    -- face 1 1 2 3
+    0x66 ∷ 0x61 ∷ 0x63 ∷ 0x65 ∷ 0x09 ∷ 0x31 ∷ 0x09 ∷ 0x31 ∷ 0x09 ∷ 0x32 ∷ 0x09 ∷ 0x33 ∷ 0x0A ∷
+    -- end 1
+    0x65 ∷ 0x6E ∷ 0x64 ∷ 0x09 ∷ 0x31 ∷ 0x0A ∷
+    []
 
 example-read : climbOf text ≡ done exampleList
-unfolding text line digit bits digitsOf climbOf rowFrom itemsFrom stepFrom fieldsAfter fieldOf isDecimal isPattern areDigits valueAfter until past has same
+unfolding text climbOf rowFrom itemsFrom stepFrom fieldsAfter fieldOf isDecimal isPattern areDigits valueAfter until past has same
 example-read = refl

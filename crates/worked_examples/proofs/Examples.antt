@@ -6,7 +6,7 @@ use Rattle.coder.specs.Histogram.{histogramFormed, raised, spanOf, sum, thinned
 use Rattle.coder.specs.Interval.{afterSymbol, narrow, postpones, settleTops, settledBits, symbolBits, topBits}
 use Rattle.coder.specs.Symbols.{afterSymbols, dynamicAfter, dynamicSpans, plainSpans, reversed, staticSpans, symbolsBits}
 use Rattle.coder.specs.Writing.{dynamicNumber, write, writeDynamic, writeFault, writeNumber, writeStatic, writtenHistogram}
-use Rattle.coder_theorems.specs.Runs.{callWrite, writeCalls}
+use Rattle.coder_theorems.specs.Runs.{afterStep, callWrite, writeCalls}
 use Rattle.progressive.specs.StepTable.{facesBefore, stepFormed, stepOffset, wellFormed}
 use Rattle.progressive.specs.Mesh.{fits}
 use Rattle.progressive.specs.Rules.{allowedOn, cornerIndex, moveNumbers, newFaceAllowed, numbersAllowed, otherCorner, otherPosition, splitAndOther, splitTriangle}
@@ -18,7 +18,7 @@ use Rattle.worked_examples.specs.Table.{table}
 
 -- all the rows of the table hold
 pub examples : AllHold table
-unfolding afterSymbol afterSymbols callWrite dynamicAfter dynamicNumber dynamicSpans histogramFormed limitsFormed narrow padded plainSpans
+unfolding afterStep afterSymbol afterSymbols callWrite dynamicAfter dynamicNumber dynamicSpans histogramFormed limitsFormed narrow padded plainSpans
     postpones putBit putBits raised reversed settleTops settledBits spanOf staticSpans storeBits sum symbolBits symbolsBits thinned topBits
     write writeCalls writeDynamic writeFault writeNumber writeStatic writerFormed writtenHistogram
     replies judgedBy refined refinedBy coarsened coarsenedBy levelOf countsAgree stepOffset facesBefore stepFormed wellFormed cornerIndex newFaceField newFaceNumber fits otherPosition otherCorner splitAndOther splitTriangle moveNumbers newFaceAllowed numbersAllowed allowedOn clearAfter laid laidFaces laidPositions showsStep undone undoneFaces undonePositions

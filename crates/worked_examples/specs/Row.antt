@@ -8,8 +8,7 @@ use lib.ListN.{drop, length, replicate}
 use Rattle.coder.specs.Histogram.{freshHistogram, values}
 use Rattle.coder.specs.declared.interval.Coder.{Coder}
 use Rattle.coder.specs.Symbols.{reversed}
-use Rattle.coder.specs.Writing.{freshWriter}
-use Rattle.coder_theorems.specs.Runs.{Number, WriteCall, writeCalls}
+use Rattle.coder_theorems.specs.Runs.{Called, Number, WriteCall, begun, put, writeCalls}
 use Rattle.mesh.specs.Corners.{absent, cornerFields, faceWords}
 use Rattle.mesh.specs.Base.{positionWords}
 use Rattle.progressive.specs.Mesh.{Mesh}
@@ -88,7 +87,7 @@ IsLast a (b ∷ (c ∷ more)) = IsLast a (c ∷ more)
 
 abbrev pub Holds : Row → Type 0
 Holds (reversal bytes reversals) = map (reversed 8) bytes ≡ reversals
-Holds (writes numbers wrote) = IsLast (callOf wrote) (writeCalls buffer freshWriter (freshHistogram ∷ []) numbers)
+Holds (writes numbers wrote) = IsLast (callOf wrote) (map (λ (c : Called). c .call) (writeCalls (begun buffer (freshHistogram ∷ [])) (map put numbers)))
 Holds (steps calls answer) = IsLast answer (replies exampleList 2 triangle calls)
 
 abbrev pub AllHold : List Row → Type 0

@@ -1,0 +1,30 @@
+-- What is handed out at the offset of every block (01: "A name is handed out as a part of the caller's bytes"): its data, its meta data, a chain's
+-- name.
+use Prim.Native.Nat.{ℕ, _+_}
+use mathlib.Core.List.{List}
+use mathlib.Core.Path.{_≡_}
+use lib.ListN.{length}
+use Rattle.blocks.specs.Parts.{dataPart, metaPart, chainName}
+use Rattle.blocks_theorems.specs.Layout.{Blocks, none, block, chain, File, blockBytes, blocksBytes, chainData, chainFields, modifierChain, countOf}
+use Rattle.blocks_theorems.specs.Layout.{headerBytes, headerSize}
+
+-- of the block at `at`
+pub record HandedAt (s : List ℕ) (at : ℕ) (content meta : List ℕ) : Type 0 where
+  pub data-part : dataPart s at ≡ content
+  pub meta-part : metaPart s at ≡ meta
+
+-- of blocks of which the first stands at `at`
+unfoldable pub Handed : List ℕ → ℕ → Blocks → Type 0
+Handed s at none = Unit {0}
+Handed s at (block type content meta more) = HandedAt s at content meta × Handed s (at + length (blockBytes type content meta)) more
+Handed s at (chain name type inside meta more) =
+    HandedAt s at (chainData name type inside) meta
+    × (chainName s at ≡ name)
+    × Handed s (at + 12 + length (chainFields name type (countOf inside))) inside
+    × Handed s (at + length (blockBytes modifierChain (chainData name type inside) meta)) more
+
+-- of a whole file
+pub record AllHanded (s : List ℕ) (f : File) : Type 0 where
+  pub header : HandedAt s 0 (headerBytes f) (f .meta)
+  pub declarations : Handed s (headerSize f) (f .declarations)
+  pub continuations : Handed s (headerSize f + length (blocksBytes (f .declarations))) (f .continuations)

@@ -1,0 +1,4 @@
+pub mod Refusals
+pub mod RowParts
+pub mod Layout
+pub mod Handed

@@ -1,0 +1,18 @@
+-- How numbers and names are laid out in bytes. Nothing here is read by a program: the theorems say that what is laid out so is read back.
+use Prim.Native.Nat.{ℕ, zero, suc, _/_, _%_}
+use mathlib.Core.List.{List, [], _∷_, _++_}
+use lib.ListN.{length}
+
+-- the lowest n bytes of a number: "Little-endian"
+unfoldable pub bytesOf : ℕ → ℕ → List ℕ
+bytesOf zero v = []
+bytesOf (suc n) v = v % 256 ∷ bytesOf n (v / 256)
+
+-- numbers, each as a U32
+unfoldable pub wordBytes : List ℕ → List ℕ
+wordBytes [] = []
+wordBytes (v ∷ vs) = bytesOf 4 v ++ wordBytes vs
+
+-- "name (U16 length, bytes)"
+unfoldable pub nameBytes : List ℕ → List ℕ
+nameBytes name = bytesOf 2 (length name) ++ name
