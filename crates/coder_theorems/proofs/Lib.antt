@@ -4,8 +4,10 @@ pub mod Ends
 pub mod Continuing
 pub mod Calls
 pub mod Opening
+pub mod Doubling
 pub mod RoundTrip
 pub mod Inner
 pub mod Steady
+pub mod Taking
 pub mod States
 pub mod ExampleRun

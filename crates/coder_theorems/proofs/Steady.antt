@@ -18,6 +18,7 @@ use Rattle.coder.specs.Values.{nextSymbol, readAfter, readDynamic, readPlain, r
 use Rattle.coder.specs.Writing.{kept}
 use Rattle.coder.specs.declared.interval.Coder.{Coder}
 use Rattle.coder.specs.declared.read.Found.{Found}
+use Rattle.coder_theorems.proofs.Doubling.{bits}
 use Rattle.coder_theorems.specs.Runs.{AllFormed, AllPresent, Context, Histograms, NoFault, NoneAtFault, Present, ReadCall, allBits, callRead, dynamic, mostBits, plain, readCalls, static}
 use Rattle.fields.specs.Limits.{largestFile}
 use Rattle.fields.specs.Numbers.{outOfRange, truncated}
@@ -30,9 +31,6 @@ use native.Mathlib.Nat.{not-suc-le-zero}
 use native.Mathlib.Omega.{arith}
 
 -- ---- how far a value leads
-
-abbrev bits : Coder → ℕ
-bits s = s .settled + s .pending
 
 plain-grown : (n : ℕ) (x : Stream) (s : Coder) → bits ((readPlain n x s) .state) ≤ bits s + 32 * n
 unfolding readPlain
@@ -110,13 +108,13 @@ module _ (d : List ℕ) (s : Coder) (used : ℕ) (st : Steady d s used) (countab
 
 -- ---- histograms
 
-formed-at : (hs : Histograms) (k : ℕ) → AllFormed hs → k < length hs → histogramFormed (getD hs k []) ≡ true
+pub formed-at : (hs : Histograms) (k : ℕ) → AllFormed hs → k < length hs → histogramFormed (getD hs k []) ≡ true
 unfolding AllFormed
 formed-at [] k a h = absurd (omega arith)
 formed-at (g ∷ hs) zero a h = a .0
 formed-at (g ∷ hs) (suc k) a h = formed-at hs k (a .1) (omega arith)
 
-formed-set : (hs : Histograms) (k : ℕ) (g : Histogram) → AllFormed hs → histogramFormed g ≡ true → AllFormed (set hs k g)
+pub formed-set : (hs : Histograms) (k : ℕ) (g : Histogram) → AllFormed hs → histogramFormed g ≡ true → AllFormed (set hs k g)
 unfolding AllFormed
 formed-set [] k g a e = tt
 formed-set (h ∷ hs) zero g a e = (e, a .1)

@@ -26,6 +26,12 @@ pub data Context : Type 0 where
   -- the place of a histogram
   dynamic : ℕ → Context
 
+-- the symbols of a number: an escape or a range above 0x3FFE has a plain U32
+abbrev pub mostSymbols : Context → ℕ
+mostSymbols (plain n) = n
+mostSymbols (static range) = 4
+mostSymbols (dynamic k) = 5
+
 abbrev pub Histograms : Type 0
 Histograms = List Histogram
 
@@ -175,11 +181,9 @@ takeCalls d s hs totals (c ∷ cs) =
 abbrev pub withTotals : ReadCall → TakeCall
 withTotals r = record { result = r .result; histograms = r .histograms; totals = map sum (r .histograms) }
 
--- the bits that a read settles or postpones at most: 32 a symbol
+-- the bits that a read settles or postpones at most, counted as 32 a symbol
 abbrev pub mostBits : Context → ℕ
-mostBits (plain n) = 32 * n
-mostBits (static range) = 128
-mostBits (dynamic k) = 160
+mostBits c = 32 * mostSymbols c
 
 abbrev pub allBits : List Context → ℕ
 allBits [] = 0

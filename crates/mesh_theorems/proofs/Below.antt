@@ -3,7 +3,7 @@
 use Prim.Native.Nat.{ℕ, zero, suc, _*_, _%_, _<_}
 use mathlib.Core.Bool.{Bool, true, false, not}
 use mathlib.Core.List.{List, [], _∷_, _++_}
-use mathlib.Core.Path.{_≡_, refl, ap, sym}
+use mathlib.Core.Path.{_≡_, _∙_, refl, ap, sym}
 use native.Mathlib.Omega.{arith}
 use borrow.Author.Tests.{leb-false}
 use lib.Dec.{leb}
@@ -25,7 +25,9 @@ use Rattle.mesh.specs.declared.base.Part.{Part}
 use Rattle.mesh.specs.declared.base.Part as part
 use Rattle.mesh.specs.declared.declaration.Declaration.{Declaration}
 use Rattle.mesh.specs.declared.faces.CornerForm.{CornerForm}
-use Rattle.mesh_theorems.specs.Below.{CornersBelow, FaceBelow, FacesBelow, FieldBelow}
+use Rattle.mesh_theorems.specs.Below.{FaceBelow, FacesBelow, IndexBelow, IndicesBelow}
+use Rattle.mesh_theorems.specs.CornerInfo.{Index, faceIndices}
+use Rattle.mesh_theorems.proofs.CornerInfo.{AsRead, face-length, face-read}
 
 -- ---- a field
 
@@ -48,12 +50,12 @@ unfolding takeStatic
 static-done range d s e = takeStatic-below true range d s (taken-done _ _ s e)
 
 field-below : (form : CornerForm) (field : ℕ) (d : List ℕ) (s : Coder) (c : Coded ℕ) → fieldFrom form field d s ≡ done c
-    → FieldBelow (present form field) (c .value) (rangeOf form field)
+    → IndexBelow (present form field) (c .value) (rangeOf form field)
 unfolding fieldFrom callRead
 field-below form field d s c e = go (present form field) e
   where
     go : (b : Bool) → pick b (codedNumber (takeStatic true (rangeOf form field) d s)) (done (record { value = absent; state = s })) ≡ done c
-        → FieldBelow b (c .value) (rangeOf form field)
+        → IndexBelow b (c .value) (rangeOf form field)
     go true h =
         let r = coded-done (takeStatic true (rangeOf form field) d s) c h in
         rw (← r .1) (static-done (rangeOf form field) d s (r .0))
@@ -61,20 +63,35 @@ field-below form field d s c e = go (present form field) e
 
 -- ---- the corners of a face
 
-corners-below : (form : CornerForm) (d : List ℕ) (left n : ℕ) (s : Coder) (c : Coded (List ℕ)) → cornersFrom form left n d s ≡ done c
-    → (length (c .value) ≡ left) × CornersBelow form n (c .value)
-unfolding cornersFrom CornersBelow
-corners-below form d zero n s c e =
+-- what is read for these indices
+corners-below : (form : CornerForm) (d : List ℕ) (is : List Index) (n : ℕ) (s : Coder) (c : Coded (List ℕ)) → AsRead form n is
+    → cornersFrom form (length is) n d s ≡ done c → IndicesBelow is (c .value)
+unfolding cornersFrom AsRead IndicesBelow
+corners-below form d [] n s c a e =
     let v : [] ≡ c .value = ap (λ (x : Coded (List ℕ)). x .value) (same-done e) in
-    rw (← v) (refl, tt)
-corners-below form d (suc left) n s c e =
+    rw (← v) tt
+corners-below form d (i ∷ is) n s c a e =
     let f = value-before (fieldFrom form (n % cornerFields) d s) _ c e in
-    let r = value-before (cornersFrom form left (suc n) d (f .0 .state)) _ c (f .2) in
+    let r = value-before (cornersFrom form (length is) (suc n) d (f .0 .state)) _ c (f .2) in
     let v : (f .0 .value ∷ r .0 .value) ≡ c .value = ap (λ (x : Coded (List ℕ)). x .value) (same-done (r .2)) in
-    let ih = corners-below form d left (suc n) (f .0 .state) (r .0) (r .1) in
-    rw (← v) (ap suc (ih .0), (field-below form (n % cornerFields) d s (f .0) (f .1), ih .1))
+    let ih = corners-below form d is (suc n) (f .0 .state) (r .0) (a .1) (r .1) in
+    rw (← v) (rw (a .0) (field-below form (n % cornerFields) d s (f .0) (f .1)), ih)
+
+-- a number for each index
+indices-length : (is : List Index) (ws : List ℕ) → IndicesBelow is ws → length ws ≡ length is
+unfolding IndicesBelow
+indices-length [] [] b = refl
+indices-length [] (w ∷ ws) b = absurd b
+indices-length (i ∷ is) [] b = absurd b
+indices-length (i ∷ is) (w ∷ ws) b = ap suc (indices-length is ws (b .1))
 
 -- ---- a face
+
+face-corners : (declaration : Declaration) (counts : List ℕ) (id : ℕ) (d : List ℕ) (s : Coder) (c : Coded (List ℕ))
+    → cornersFrom (formOf declaration counts id) (3 * cornerFields) 0 d s ≡ done c → IndicesBelow (faceIndices declaration counts id) (c .value)
+face-corners declaration counts id d s c e =
+    corners-below (formOf declaration counts id) d (faceIndices declaration counts id) 0 s c (face-read declaration counts id)
+    (rw (← face-length declaration counts id) at e)
 
 face-below : (declaration : Declaration) (counts : List ℕ) (hs : Histograms) (d : List ℕ) (s : Coder) (c : Coded (List ℕ))
     → faceFrom declaration counts hs d s ≡ done c → FaceBelow declaration counts (c .value)
@@ -85,18 +102,18 @@ face-below declaration counts hs d s c e =
     let y = value-before (codedNumber (callRead d s hs shadingContext .result)) _ (x .0) (x .1) in
     let z = passed (leb count (y .0 .value)) outOfRange 0 _ (x .0) (y .2) in
     let w : y .0 ≡ x .0 = same-done (z .1) in
-    let form = formOf declaration counts (x .0 .value) in
+    let id = x .0 .value in
+    let form = formOf declaration counts id in
     let r = value-before (cornersFrom form (3 * cornerFields) 0 d (x .0 .state)) _ c (x .2) in
-    let v : (x .0 .value ∷ r .0 .value) ≡ c .value = ap (λ (x : Coded (List ℕ)). x .value) (same-done (r .2)) in
-    let b = corners-below form d (3 * cornerFields) 0 (x .0 .state) (r .0) (r .1) in
+    let v : (id ∷ r .0 .value) ≡ c .value = ap (λ (x : Coded (List ℕ)). x .value) (same-done (r .2)) in
     let small : y .0 .value < count = leb-false count (y .0 .value) (z .0) in
-    rw (← v) (rw w at small, b .0, b .1)
+    rw (← v) (rw w at small, face-corners declaration counts id d (x .0 .state) (r .0) (r .1))
 
 -- a face has all its words
-face-length : (declaration : Declaration) (counts words : List ℕ) → FaceBelow declaration counts words → length words ≡ faceWords
+record-length : (declaration : Declaration) (counts words : List ℕ) → FaceBelow declaration counts words → length words ≡ faceWords
 unfolding FaceBelow
-face-length declaration counts [] b = absurd b
-face-length declaration counts (w ∷ ws) b = ap suc (b .1)
+record-length declaration counts [] b = absurd b
+record-length declaration counts (id ∷ ws) b = ap suc (indices-length (faceIndices declaration counts id) ws (b .1) ∙ face-length declaration counts id)
 
 -- ---- faces
 
@@ -111,7 +128,7 @@ faces-below declaration counts (suc left) hs d s words e =
     let r = value-before (facesFrom declaration counts left hs′ d (f .0 .state)) _ words (f .2) in
     let v : f .0 .value ++ r .0 ≡ words = same-done (r .2) in
     let b = face-below declaration counts hs d s (f .0) (f .1) in
-    let whole = face-length declaration counts (f .0 .value) b in
+    let whole = record-length declaration counts (f .0 .value) b in
     let ih = faces-below declaration counts left hs′ d (f .0 .state) (r .0) (r .1) in
     rw (← v) (rw (take-at (f .0 .value) (r .0) faceWords whole) b, rw (drop-at (f .0 .value) (r .0) faceWords whole) ih)
 
@@ -121,7 +138,7 @@ pub below-length : (declaration : Declaration) (counts : List ℕ) (n : ℕ) (wo
 unfolding FacesBelow
 below-length declaration counts zero words b = rw b (omega arith)
 below-length declaration counts (suc left) words b =
-    let first = face-length declaration counts (take faceWords words) (b .0) in
+    let first = record-length declaration counts (take faceWords words) (b .0) in
     let rest = below-length declaration counts left (drop faceWords words) (b .1) in
     omega (arith, first, rest, length-append (take faceWords words) (drop faceWords words), ap length (take-append-drop faceWords words))
 

@@ -4,24 +4,25 @@ use Prim.Native.Nat.{ℕ, zero, suc, _+_, _*_, _%_, _≤_}
 use mathlib.Core.Bool.{Bool, true, false}
 use mathlib.Core.List.{List, [], _∷_, _++_, append-assoc, map}
 use mathlib.Core.Path.{_≡_, refl, ap, sym}
-use native.Mathlib.Omega.{arith}
 use borrow.Author.Tests.{lt-leb}
-use lib.Dec.{ltb}
 use lib.ListN.{drop, getD, length, take, take-append-drop}
 use Rattle.fields.specs.Limits.{largestCount, largestFile}
 use Rattle.fields.specs.Judged.{Judged, done, pick}
 use Rattle.coder.specs.Histogram.{freshHistogram}
 use Rattle.coder.specs.Interval.{fresh}
 use Rattle.coder.specs.declared.interval.Coder.{Coder}
-use Rattle.coder_theorems.specs.Runs.{AllKeep, AllTyped, Called, Histograms, Number, ReadCall, Step, afterSteps, begun, callRead, contextIn, endCall, numberIn, readBack, readCalls, takenCalls, writeCalls}
+use Rattle.coder_theorems.specs.Runs.{AllKeep, Called, Histograms, Number, ReadCall, Step, afterSteps, begun, callRead, contextIn, endCall, numberIn, readBack, readCalls, takenCalls, writeCalls}
 use Rattle.coder_theorems.proofs.RoundTrip.{round-trip}
 use Rattle.mesh.specs.Shading.{shadingLimit}
 use Rattle.mesh.specs.Corners.{absent, cornerFields, faceWords, fieldContext, formOf, present, rangeOf, shadingContext}
 use Rattle.mesh.specs.Faces.{Coded, codedNumber, cornersFrom, faceFrom, facesFrom, facesOf, fieldFrom, shadingFrom}
 use Rattle.mesh.specs.declared.declaration.Declaration.{Declaration}
 use Rattle.mesh.specs.declared.faces.CornerForm.{CornerForm}
-use Rattle.mesh_theorems.specs.Below.{CornersBelow, FaceBelow, FacesBelow, FieldBelow}
-use Rattle.mesh_theorems.specs.FaceNumbers.{cornerNumbers, faceNumbers, facesNumbers, fieldNumber}
+use Rattle.mesh_theorems.specs.CornerInfo.{Index, faceIndices}
+use Rattle.mesh_theorems.specs.Below.{FaceBelow, FacesBelow, IndexBelow, IndicesBelow}
+use Rattle.mesh_theorems.specs.FaceNumbers.{faceNumbers, facesNumbers, indexNumber, indexNumbers}
+use Rattle.mesh_theorems.proofs.CornerInfo.{AsRead, face-length, face-read}
+use Rattle.mesh_theorems.proofs.FacesTaken.{faces-fine}
 
 -- ---- calls that give these numbers
 
@@ -54,27 +55,29 @@ Leads : {A : Type 0} → Judged (Coded A) → A → List ℕ → Histograms → 
 Leads j v d hs rest = (t : Coder) × (j ≡ done (record { value = v; state = t })) × Gives d t hs rest
 
 field-back : (form : CornerForm) (field w : ℕ) (d : List ℕ) (s : Coder) (hs : Histograms) (rest : List Number)
-    → FieldBelow (present form field) w (rangeOf form field)
-    → Gives d s hs (pick (present form field) (fieldNumber form field w ∷ []) [] ++ rest)
+    → IndexBelow (present form field) w (rangeOf form field)
+    → Gives d s hs (pick (present form field) (indexNumber (rangeOf form field) w ∷ []) [] ++ rest)
     → Leads (fieldFrom form field d s) w d hs rest
 unfolding fieldFrom callRead Gives Leads
 field-back form field w d s hs rest b g = go (present form field) b g
   where
-    go : (p : Bool) → FieldBelow p w (rangeOf form field) → Gives d s hs (pick p (fieldNumber form field w ∷ []) [] ++ rest)
+    go : (p : Bool) → IndexBelow p w (rangeOf form field) → Gives d s hs (pick p (indexNumber (rangeOf form field) w ∷ []) [] ++ rest)
         → Leads (pick p (codedNumber (callRead d s [] (fieldContext form field) .result)) (done (record { value = absent; state = s }))) w d hs rest
     go true b g = (_, g .0, g .1)
     go false b g = (s, rw b refl, g)
 
 -- ---- the corners of a face
 
-corners-back : (form : CornerForm) (d : List ℕ) (ws : List ℕ) (n : ℕ) (s : Coder) (hs : Histograms) (rest : List Number)
-    → CornersBelow form n ws → Gives d s hs (cornerNumbers form n ws ++ rest) → Leads (cornersFrom form (length ws) n d s) ws d hs rest
-unfolding cornersFrom CornersBelow cornerNumbers Leads
-corners-back form d [] n s hs rest b g = (s, refl, g)
-corners-back form d (w ∷ ws) n s hs rest b g =
+corners-back : (form : CornerForm) (d : List ℕ) (is : List Index) (ws : List ℕ) (n : ℕ) (s : Coder) (hs : Histograms) (rest : List Number)
+    → AsRead form n is → IndicesBelow is ws → Gives d s hs (indexNumbers is ws ++ rest) → Leads (cornersFrom form (length is) n d s) ws d hs rest
+unfolding cornersFrom AsRead IndicesBelow indexNumbers Leads
+corners-back form d [] [] n s hs rest a b g = (s, refl, g)
+corners-back form d [] (w ∷ ws) n s hs rest a b g = absurd b
+corners-back form d (i ∷ is) [] n s hs rest a b g = absurd b
+corners-back form d (i ∷ is) (w ∷ ws) n s hs rest a b g =
     let field = n % cornerFields in
-    let f = field-back form field w d s hs (cornerNumbers form (suc n) ws ++ rest) (b .0) (rw append-assoc at g) in
-    let r = corners-back form d ws (suc n) (f .0) hs rest (b .1) (f .2) in
+    let f = field-back form field w d s hs (indexNumbers is ws ++ rest) (rw (a .0) at (b .0)) (rw (append-assoc, a .0) at g) in
+    let r = corners-back form d is ws (suc n) (f .0) hs rest (a .1) (b .1) (f .2) in
     (r .0, rw (f .1, r .1) refl, r .2)
 
 -- ---- a face
@@ -87,8 +90,10 @@ face-back declaration counts [] d s hs rest b g = absurd b
 face-back declaration counts (shading ∷ corners) d s hs rest b g =
     let r = callRead d s hs shadingContext in
     let form = formOf declaration counts shading in
-    let c = corners-back form d corners 0 (r .result .state) (r .histograms) rest (b .2) (g .1) in
-    let read : cornersFrom form (3 * cornerFields) 0 d (r .result .state) ≡ done (record { value = corners; state = c .0 }) = rw (b .1) at (c .1) in
+    let is = faceIndices declaration counts shading in
+    let c = corners-back form d is corners 0 (r .result .state) (r .histograms) rest (face-read declaration counts shading) (b .1) (g .1) in
+    let read : cornersFrom form (3 * cornerFields) 0 d (r .result .state) ≡ done (record { value = corners; state = c .0 })
+    = rw (face-length declaration counts shading) at (c .1) in
     (c .0, rw (g .0, lt-leb (declaration .«shading_count») shading (b .0), read) refl, c .2)
 
 -- ---- faces
@@ -106,45 +111,6 @@ faces-back declaration counts (suc left) words d s hs b g =
     let r = faces-back declaration counts left rest d (f .0) hs′ (b .1) (f .2) in
     rw (f .1, r) (ap done (take-append-drop faceWords words))
 
--- ---- every number is one of its call's type
-
-typed-append : (xs ys : List Number) → AllTyped xs → AllTyped ys → AllTyped (xs ++ ys)
-unfolding AllTyped
-typed-append [] ys a b = b
-typed-append (x ∷ xs) ys a b = (a .0, typed-append xs ys (a .1) b)
-
-field-typed : (form : CornerForm) (field w : ℕ) → rangeOf form field ≤ largestCount → (p : Bool) → FieldBelow p w (rangeOf form field)
-    → AllTyped (pick p (fieldNumber form field w ∷ []) [])
-unfolding AllTyped
-field-typed form field w small true b = (omega arith, tt)
-field-typed form field w small false b = tt
-
-corners-typed : (form : CornerForm) (ws : List ℕ) (n : ℕ) → ((field : ℕ) → rangeOf form field ≤ largestCount) → CornersBelow form n ws
-    → AllTyped (cornerNumbers form n ws)
-unfolding AllTyped CornersBelow cornerNumbers
-corners-typed form [] n small b = tt
-corners-typed form (w ∷ ws) n small b =
-    let field = n % cornerFields in
-    typed-append (pick (present form field) (fieldNumber form field w ∷ []) []) (cornerNumbers form (suc n) ws)
-    (field-typed form field w (small field) (present form field) (b .0)) (corners-typed form ws (suc n) small (b .1))
-
-module _ (declaration : Declaration) (counts : List ℕ) (few : declaration .«shading_count» ≤ shadingLimit)
-    (small : (i : ℕ) → getD counts i 0 ≤ largestCount) where
-  face-typed : (words : List ℕ) → FaceBelow declaration counts words → AllTyped (faceNumbers declaration counts words)
-  unfolding AllTyped FaceBelow faceNumbers rangeOf
-  face-typed [] b = absurd b
-  face-typed (shading ∷ corners) b =
-      (omega arith, corners-typed (formOf declaration counts shading) corners 0 (λ field. small (pick (ltb field 4) (field + 1) 5)) (b .2))
-
-  faces-typed : (n : ℕ) (words : List ℕ) → FacesBelow declaration counts n words → AllTyped (facesNumbers declaration counts n words)
-  unfolding AllTyped FacesBelow facesNumbers
-  faces-typed zero words b = tt
-  faces-typed (suc left) words b =
-      let own = take faceWords words in
-      let rest = drop faceWords words in
-      typed-append (faceNumbers declaration counts own) (facesNumbers declaration counts left rest)
-      (face-typed own (b .0)) (faces-typed left rest (b .1))
-
 -- Faces whose numbers the coder's writer took, in whatever buffers, and ended are read back, whatever follows them.
 pub faces-read-back : (declaration : Declaration) (counts : List ℕ) (n : ℕ) (words : List ℕ) (steps : List Step) (buffer rest : List ℕ)
     → FacesBelow declaration counts n words → declaration .«shading_count» ≤ shadingLimit → ((i : ℕ) → getD counts i 0 ≤ largestCount)
@@ -157,5 +123,5 @@ unfolding facesOf
 faces-read-back declaration counts n words steps buffer rest b few small keep coded e short =
     let hs = freshHistogram ∷ [] in
     let took = takenCalls (writeCalls (begun buffer hs) steps) in
-    let back = round-trip steps hs buffer rest (rw coded (faces-typed declaration counts few small n words b)) keep e short in
+    let back = round-trip steps hs buffer rest (rw coded (faces-fine declaration counts few small n words b .typed)) keep e short in
     faces-back declaration counts n words _ fresh hs b (rw coded at (calls-give _ took fresh hs back))

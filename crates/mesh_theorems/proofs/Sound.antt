@@ -60,7 +60,7 @@ sound-done : {A B : Type 0} (j : Judged A) (v : A → B) → SoundIf j → Sound
 sound-done (done a) v s = tt
 sound-done (refused k p) v s = s
 
-fresh-formed : AllFormed (freshHistogram ∷ [])
+pub fresh-formed : AllFormed (freshHistogram ∷ [])
 unfolding AllFormed histogramFormed sum
 fresh-formed = (refl, tt)
 
