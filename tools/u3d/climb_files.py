@@ -435,7 +435,7 @@ def bad_records():
     ]
 
 
-# Two faults: 01's order decides, "13, 15, 16, 12, 14, 18".
+# Two faults: 01's order decides (13, 15, 16, 12, 14, 18).
 
 ORDER = (13, 15, 16, 12, 14, 18)
 FAULTS = {13: (SET_STEP, 10, 3), 12: (LEND_TABLES, 18, 8), 14: (SET_SHADINGS, 0, 0), 18: (SET_POSITION, 9, 7)}

@@ -1,4 +1,4 @@
--- The fields of a chain (01, "Blocks"; clause 9.4.3): "A chain (14) holds name (U16 length, bytes), type, attributes, padding to 4
+-- The fields of a chain (clause 9.4.3; 01, "Blocks"): "A chain (14) holds name (U16 length, bytes), type, attributes, padding to 4
 -- from the data's start, modifier count, then that many blocks." A chain's bytes are those of the file up to the chain's end.
 use Prim.Native.Nat.{ℕ, _+_, _-_}
 use mathlib.Core.List.{List}

@@ -1,4 +1,5 @@
--- The blocks of a whole file (01, "Blocks"): the header first, then the blocks at the top. "The block walk .. judge[s] 12 last."
+-- The blocks of a whole file (01, "Blocks"): the header first, then the blocks at the top. "The block walk and the climb text judge 12
+-- last".
 use Prim.Native.Nat.{ℕ}
 use mathlib.Core.List.{List, [], _∷_}
 use mathlib.Core.Bool.{false}

@@ -1,5 +1,5 @@
--- The first block (01, "Blocks"; clause 9.4.1): "judged: the 12 bytes, type and data size (2, never 6), room for its data (1), major
--- version (2), 4, 3, then room for the rest (1) and paddings."
+-- The header (clause 9.4.1; 01, "Blocks"): "The first block is judged: the 12 bytes, type and data size (2, never 6), room for its data
+-- (1), major version (2), 4, 3, then room for the rest (1) and paddings."
 use Prim.Native.Nat.{ℕ, _+_}
 use mathlib.Core.List.{List, [], _∷_}
 use lib.Dec.{eqb, ltb}
@@ -75,7 +75,7 @@ judgedOf s head =
     (refused badHeader 4))
     (refused badHeader 0)
 
--- the first block of a file; "a file above 16 MiB (place 0, judged first)" is 9
+-- the first block of a file; "a file .. above 16 MiB (place 0, judged first)" is 9
 unfoldable pub firstOf : List ℕ → Judged First
 firstOf s = refusedIf (ltb largestFile (length s)) overLimit 0 (onDone (headAt s 0) λ head. judgedOf s head)
 

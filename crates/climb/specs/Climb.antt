@@ -101,7 +101,7 @@ climbOf text =
 
 -- ---- the answer, and the caller's table
 
--- "the climb text judge[s] 12 last"
+-- "the block walk and the climb text judge 12 last"
 unfoldable pub climbIn : List ℕ → List ℕ → Judged (List ℕ)
 climbIn text table = onDone (climbOf text) λ words. roomFor words table words
 

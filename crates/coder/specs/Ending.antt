@@ -8,7 +8,7 @@ use lib.ListN.{getD}
 use mathlib.Core.Bool.{Bool, true, false}
 use mathlib.Core.List.{List, [], _∷_, _++_}
 
--- the bits from place p on, "with zeros after"
+-- the bits from place p on, "with zeros after it"
 unfoldable pub placed : ℕ → List ℕ → Stream
 placed p bits i = getD bits (i - p) 0
 
@@ -33,7 +33,7 @@ lowBits s = settledBits s ++ bitsOf 15 (s .low)
 unfoldable pub lowState : Coder → Coder
 lowState s = record { low = 0; high = 0xFFFF; pending = 0; settled = s .settled + 1 + s .pending + 15 }
 
--- "a reader at the state before the end" finds a number from low to high
+-- whether "a reader at the state before the end" finds a number from low to high
 abbrev pub flushFound : Bool → Coder → Bool
 flushFound compressed s = finds s (placed (s .settled) (flushBits compressed s))
 

@@ -22,7 +22,7 @@ symbols = 257
 abbrev pub largestTotal : ℕ
 largestTotal = 0x1FFF
 
--- 10.4.3: "escape weight 1, all else 0"
+-- 10.4.3; 01: "A fresh dynamic context has escape weight 1, all else 0"
 abbrev pub freshHistogram : Histogram
 freshHistogram = 1 ∷ replicate values 0
 
@@ -53,7 +53,7 @@ halve w = w / 2
 abbrev pub addAt : Histogram → ℕ → Histogram
 addAt h k = set h k (getD h k 0 + 1)
 
--- 10.4.9: "a total of 0x1FFF or more has every weight halved downward and escape then raised by 1"
+-- 10.4.9; 01: "a total of 0x1FFF or more has every weight halved downward and escape then raised by 1"
 unfoldable pub thinned : Histogram → Histogram
 thinned h = cond (leb largestTotal (sum h)) (addAt (map halve h) 0) h
 

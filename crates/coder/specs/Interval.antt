@@ -72,7 +72,7 @@ postpone s = record {
   settled = s .settled;
 }
 
--- 10.4.4.5: "pending rises while low has 0x4000 and high hasn't"
+-- 10.4.4.5; 01: "pending rises while low has 0x4000 and high hasn't"
 unfoldable pub postpones : ℕ → Coder → Coder
 postpones zero s = s
 postpones (suc n) s = elim (lowStraddles s) [ true ↦ elim (highStraddles s) [ true ↦ postpones n (postpone s) | false ↦ s ] | false ↦ s ]

@@ -40,7 +40,7 @@ readNumber look d s contextGood rangeGood settled valueGood =
     first (readFault look d s)
     (unless contextGood badState (unless rangeGood outOfRange (unless (leb settled (bitsIn d)) truncated (unless valueGood outOfRange 0))))
 
--- "a refusal gives back every other result 0, and the state that was handed in"
+-- "A refusal gives back number and place with every other result 0, and the state that was handed in"
 unfoldable pub taken : ℕ → Found → Coder → Taken
 taken zero found s = record { number = 0; done = true; value = found .value; state = found .state }
 taken (suc n) found s = record { number = suc n; done = false; value = 0; state = s }

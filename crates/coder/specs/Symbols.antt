@@ -11,7 +11,7 @@ unfoldable pub reversed : ℕ → ℕ → ℕ
 reversed zero v = 0
 reversed (suc n) v = v % 2 * 2 ^ n + reversed n (v / 2)
 
--- 10.4.3, static context: "values 0 to R-1 weight 1 each and no escape"
+-- 10.4.3; 01: "Static range R gives values 0 to R-1 weight 1 each and no escape"
 abbrev pub staticSpan : ℕ → ℕ → Span
 staticSpan range v = record { start = v; weight = 1; total = range }
 
@@ -24,7 +24,7 @@ unfoldable pub plainSpans : ℕ → ℕ → List Span
 plainSpans zero v = []
 plainSpans (suc n) v = byteSpan v ∷ plainSpans n (v / 256)
 
--- 10.4.5: a value in a static range. "R above 0x3FFE: a plain U32"
+-- a value in a static range (10.4.5; 01: "R above 0x3FFE: a plain U32")
 unfoldable pub staticSpans : ℕ → ℕ → List Span
 staticSpans range v = elim (leb range largestRange) [ true ↦ staticSpan range v ∷ [] | false ↦ plainSpans 4 v ]
 

@@ -54,7 +54,7 @@ headOf s name declaration =
 
 -- ---- tables and pools
 
--- "positions 3" numbers each
+-- "positions 3 .. numbers each"
 abbrev pub positionWords : ℕ
 positionWords = 3
 
@@ -176,7 +176,7 @@ lengthsOf t =
 abbrev pub tableOf : List ℕ → List ℕ → List ℕ
 tableOf words table = filled (length table) 0 words
 
--- "a refusal changes no table"
+-- the tables after an answer: a refusal leaves them as they were
 unfoldable pub tablesAfter : InPart Mesh → Tables → Tables
 tablesAfter (read m) t = record {
   faces = tableOf (m .faces) (t .faces);

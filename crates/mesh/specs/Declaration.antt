@@ -1,4 +1,4 @@
--- The mesh declaration (01, "Mesh declaration and base mesh"; clause 9.6.1.1): "fields in the order of clause 9.6.1, from name to bone
+-- The mesh declaration (clause 9.6.1.1; 01, "Mesh declaration and base mesh"): "fields in the order of clause 9.6.1, from name to bone
 -- count".
 use Prim.Native.Nat.{ℕ, _+_}
 use mathlib.Core.List.{List, [], _∷_}
@@ -20,7 +20,7 @@ abbrev pub openingRules : List Rule
 openingRules =
     -- chain index: 0, else 11
     upTo 0 ∷
-    -- mesh attributes: "bit 0 means no normals; other bits 0, else 11"
+    -- "Mesh attributes bit 0 means no normals; .. other bits of either 0, else 11"
     upTo 1 ∷
     -- counts of faces, positions, normals, diffuse colors, specular colors, texture coordinates
     limited largestCount ∷ limited largestCount ∷ limited largestCount ∷ limited largestCount ∷ limited largestCount ∷ limited largestCount ∷

@@ -56,7 +56,7 @@ facesFrom declaration counts (suc left) hs d s =
     onDone (facesFrom declaration counts left (callRead d s hs shadingContext .histograms) d (face .state)) λ rest.
     done (face .value ++ rest)
 
--- 01, "The place": "in the coded faces, the first byte after the pools"
+-- "in the coded faces, the first byte after the pools"
 abbrev pub placedAt : {A : Type 0} → ℕ → Judged A → Judged A
 placedAt place (done a) = done a
 placedAt place (refused n p) = refused n place

@@ -21,7 +21,7 @@ noShading = record { attributes = 0; «layer_count» = 0; dimensions = replicate
 unfoldable pub noShadings : List Shading
 noShadings = replicate shadingLimit noShading
 
--- attributes ("bit 0 diffuse, bit 1 specular; other bits 0, else 11"), and the layer count
+-- "shading attributes bit 0 diffuse, bit 1 specular; other bits of either 0, else 11"; and the layer count
 abbrev pub shadingRules : List Rule
 shadingRules = upTo 3 ∷ limited layerLimit ∷ []
 

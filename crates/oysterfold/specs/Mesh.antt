@@ -15,7 +15,7 @@ use Rattle.oysterfold.specs.Result.{resultFor}
 abbrev pub resultWords : ℕ
 resultWords = 9
 
--- "part (0 declaration, 1 continuation)"
+-- "part that it counts from (0 declaration, 1 continuation)"
 abbrev pub partNumber : Part → ℕ
 partNumber part.the-variants.Declaration = 0
 partNumber part.the-variants.Continuation = 1

@@ -18,7 +18,7 @@ pub record Handed : Type 0 where
 abbrev pub handed : ℕ → List ℕ → List ℕ → Handed
 handed number state result = record { number = number; state = state; result = result }
 
--- "`state` .. change only on answer 0"; a refused read's value is 0
+-- "state .. arrays change only on answer 0"; a refused read's value is 0
 abbrev pub handedBy : Taken → List ℕ → List ℕ → Handed
 handedBy t state result = handed (t .number) (pick (t .done) (sets state 0 (coderWords (t .state))) state) (valueTold (t .value) result)
 

@@ -14,7 +14,7 @@ abbrev pub numberOf : {A : Type 0} → Judged A → ℕ
 numberOf (done value) = 0
 numberOf (refused n p) = n
 
--- "place first"; "every other result 0"
+-- "place first; on a refusal the place and every other word of it 0"
 abbrev pub wordsOf : Judged ℕ → List ℕ
 wordsOf (done value) = 0 ∷ value ∷ []
 wordsOf (refused n p) = p ∷ 0 ∷ []

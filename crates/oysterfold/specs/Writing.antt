@@ -18,7 +18,7 @@ pub record Handed : Type 0 where
 abbrev pub handed : ℕ → List ℕ → List ℕ → Handed
 handed number state buffer = record { number = number; state = state; buffer = buffer }
 
--- "`state` .. change only on answer 0"; a refused write's bytes are those of the buffer as it was
+-- "state .. arrays change only on answer 0"; a refused write's bytes are those of the buffer as it was
 abbrev pub handedBy : Write → List ℕ → Handed
 handedBy w state = handed (w .number) (pick (w .done) (sets state 0 (writerWords (w .writer))) state) (w .bytes)
 

@@ -48,7 +48,7 @@ callOf w =
 abbrev pub corner : ℕ → List ℕ
 corner position = position ∷ replicate (cornerFields - 1) absent
 
--- the record of a face with such corners, "(shading: three positions)"
+-- the record of a face with such corners: its shading, and the positions of the three
 abbrev pub face : ℕ → ℕ → ℕ → ℕ → List ℕ
 face shading a b c = shading ∷ (corner a ++ corner b ++ corner c)
 
