@@ -13,7 +13,8 @@ use Rattle.progressive.specs.Laying.{laid}
 use Rattle.progressive.specs.Steps.{Reply, reply}
 use Rattle.progressive_theorems.specs.Calls.{Call, up, down}
 
--- "Mesh 0 is the base mesh, all room past it 0; mesh k+1 is mesh k with step k laid on it"
+-- "Mesh 0 is the base mesh, all room past it 0; mesh k+1 is mesh k with step k laid on it". The base that is handed in has those zeros
+-- (proofs/CallList.antt)
 unfoldable pub meshAt : List ℕ → Mesh → ℕ → Mesh
 meshAt t base zero = base
 meshAt t base (suc k) = laid t (stepOffset t k) (meshAt t base k)
