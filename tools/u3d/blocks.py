@@ -203,7 +203,7 @@ def _edges(at, data_size, meta_size):
 
 
 def _judge_length(data, limit):
-    """01: "a file above 16 MiB (place 0, judged first)"."""
+    """01: "a file .. above 16 MiB (place 0, judged first)"."""
     if len(data) > limit:
         raise Refused(TOO_LARGE, 0)
 

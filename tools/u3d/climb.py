@@ -88,7 +88,7 @@ def read_climb(text, table):
     except _Refused:
         return NOT_OF_FORM, reader.number, 0
     if len(words) > len(table):
-        return NO_ROOM, 0, 0  # 01: "the climb text judge[s] 12 last"
+        return NO_ROOM, 0, 0  # 01: the climb text judges 12 last
     table[:len(words)] = words
     return DONE, 0, len(words)
 

@@ -228,7 +228,7 @@ def mesh_name(data):
 
 
 def _judge_length(data, part):
-    """01: "mesh data [..] above 16 MiB (place 0, judged first)"."""
+    """01: "mesh data .. above 16 MiB (place 0, judged first)"."""
     if len(data) > DATA_LIMIT:
         raise Refused(TOO_LARGE, part, 0)
 
@@ -284,7 +284,7 @@ class _Part:
         return Shading(attributes, dimensions, self.word())
 
     def declaration(self):
-        """9.6.1.1, "from name to bone count"; then 17 at the first byte left."""
+        """9.6.1.1; 01: "from name to bone count"; then 17 at the first byte left."""
         name, chain_index, attributes = self.name(), self.flags(0), self.flags(NO_NORMALS)
         counts = tuple(self.limited(COUNT_LIMIT) for _ in range(6))
         shadings = tuple([self.shading() for _ in range(self.limited(SHADING_LIMIT))])

@@ -8,7 +8,7 @@ are at 52 and 56, the bone count at 104, and the end is 108. The continuation ha
 8 to 28 and its pools from 32 on.
 
 Data above 16 MiB (9) can't be stored here. Nor can a static value not below its range (10): it
-takes a range above 0x3FFE, and so a pool above 0x3FFE numbers.
+takes a range above 0x3FFE, and so a pool above 0x3FFE entries.
 """
 
 from typing import NamedTuple

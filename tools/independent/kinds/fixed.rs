@@ -271,7 +271,7 @@ fn climb_gives(number: u32, list: &[u32], tally: &mut Tally) -> Result<(), Diffe
     .map(drop)
 }
 
-/// The steps' limit and one more; and a text above 16 MiB, which has no limit.
+/// The steps' limit and one more; and a text of 15.6 MB, with 64 moves and new faces in every step.
 fn long_climbs(tally: &mut Tally) -> Result<(), Difference> {
     let mut random = Random::of_input(0, 0);
     for (steps, number) in [(MAX_STEPS, 0), (MAX_STEPS + 1, 13)] {
