@@ -14,7 +14,7 @@ use Rattle.coder.specs.Totals.{takeCounted}
 use Rattle.coder.specs.Values.{readDynamic, readPlain, readStatic}
 use Rattle.coder.specs.declared.read.Found.{Found}
 use lib.Dec.{ltb}
-use lib.ListN.{getD, set}
+use lib.ListN.{List·getD-map, getD, set}
 use mathlib.Core.Bool.{Bool, true, false}
 use mathlib.Core.List.{List, [], _∷_, map}
 use mathlib.Core.Path.{_≡_, ap, refl}
@@ -64,14 +64,12 @@ counted-same h d s v = rw (sum-counted h d s, number-same (histogramFormed h) d 
 
 sums-at : (hs : Histograms) (k : ℕ) → getD (map sum hs) k 0 ≡ sum (getD hs k [])
 unfolding sum
-sums-at [] k = refl
-sums-at (h ∷ hs) zero = refl
-sums-at (h ∷ hs) (suc k) = sums-at hs k
+sums-at hs k = List·getD-map sum hs k []
 
-sums-set : (hs : Histograms) (k : ℕ) (h : Histogram) → set (map sum hs) k (sum h) ≡ map sum (set hs k h)
-sums-set [] k h = refl
-sums-set (g ∷ hs) zero h = refl
-sums-set (g ∷ hs) (suc k) h = ap (λ (l : List ℕ). sum g ∷ l) (sums-set hs k h)
+pub map-set : {A B : Type 0} (f : A → B) (l : List A) (k : ℕ) (a : A) → set (map f l) k (f a) ≡ map f (set l k a)
+map-set f [] k a = refl
+map-set f (x ∷ l) zero a = refl
+map-set {B = B} f (x ∷ l) (suc k) a = ap (λ (m : List B). f x ∷ m) (map-set f l k a)
 
 pub call-same : (d : List ℕ) (s : Coder) (hs : Histograms) (c : Context) → Inverted s (bitAt d)
     → callTake d s hs (map sum hs) c ≡ withTotals (callRead d s hs c)
@@ -79,7 +77,7 @@ unfolding callTake callRead takePlain takeStatic readNumber
 call-same d s hs (plain n) v = rw (fault-same d s v)
 call-same d s hs (static range) v = rw (fault-same d s v)
 call-same d s hs (dynamic k) v =
-    rw (sums-at hs k, counted-same (getD hs k []) d s v, sums-set hs k (takenHistogram (getD hs k []) d s))
+    rw (sums-at hs k, counted-same (getD hs k []) d s v, map-set sum hs k (takenHistogram (getD hs k []) d s))
 
 calls-same : (d : List ℕ) (s : Coder) (hs : Histograms) (cs : List Context) → Inverted s (bitAt d)
     → takeCalls d s hs (map sum hs) cs ≡ map withTotals (readCalls d s hs cs)

@@ -128,6 +128,20 @@ length-store bits l p = length-putBits bits _ p ∙ go (eqb (p % 8) 0)
     go true = refl
     go false = length-putBit l p 0
 
+-- Bytes after those of the bits are untouched.
+put-later : (bits l : List ℕ) (p i : ℕ) → bytesOf (p + length bits) ≤ i → getD (putBits l p bits) i 0 ≡ getD l i 0
+unfolding putBits putBit
+put-later [] l p i h = refl
+put-later (b ∷ bits) l p i h = put-later bits (putBit l p b) (suc p) i (omega arith) ∙ getD-set-other l (p / 8) i _ 0 (λ e. omega arith)
+
+pub store-later : (bits l : List ℕ) (p i : ℕ) → bytesOf (p + length bits) ≤ i → getD (storeBits l p bits) i 0 ≡ getD l i 0
+unfolding storeBits padded putBit
+store-later bits l p i h = put-later bits _ p i h ∙ go (eqb (p % 8) 0) refl
+  where
+    go : (t : Bool) → eqb (p % 8) 0 ≡ t → getD (cond t l (putBit l p 0)) i 0 ≡ getD l i 0
+    go true e = refl
+    go false e = let part : p % 8 ≢ 0 = eqb-false _ _ e in getD-set-other l (p / 8) i _ 0 (λ q. omega arith)
+
 -- ---- the bytes that n bits take
 
 take-byte : (l : List ℕ) (n i : ℕ) → i < 8 * n → bitAt (take n l) i ≡ bitAt l i

@@ -12,6 +12,11 @@ pub data Judged (A : Type 0) : Type 0 where
   done : A → Judged A
   refused : ℕ → ℕ → Judged A
 
+-- 01's number: 0 is "done". The number of an answer is that of what its `..Given` definition says
+abbrev pub numberOf : {A : Type 0} → Judged A → ℕ
+numberOf (done a) = 0
+numberOf (refused n p) = n
+
 -- the number and place of a refusal that the code hands back
 abbrev pub refusedBy : {A : Type 0} → Refusal → Judged A
 refusedBy e = refused (e .number) (e .place)

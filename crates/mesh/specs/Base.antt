@@ -113,6 +113,11 @@ pub data InPart (A : Type 0) : Type 0 where
   read : A → InPart A
   refusedIn : Part → ℕ → ℕ → InPart A
 
+-- 01's number of it
+abbrev pub meshNumber : {A : Type 0} → InPart A → ℕ
+meshNumber (read a) = 0
+meshNumber (refusedIn p n place) = n
+
 abbrev pub inPart : {A B : Type 0} → Part → Judged A → (A → InPart B) → InPart B
 inPart p (done a) next = next a
 inPart p (refused n place) next = refusedIn p n place

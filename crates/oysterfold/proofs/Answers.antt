@@ -7,10 +7,10 @@ use native.Mathlib.Omega.{arith}
 use lib.ListN.{length}
 use lib.Seq.{sets}
 use Rattle.fields.specs.Numbers.{noRoom}
-use Rattle.mesh.specs.Base.{InPart, Mesh, Tables, answered, lengthsOf, meshOf, read, refusedIn, tablesAfter}
+use Rattle.mesh.specs.Base.{InPart, Mesh, Tables, answered, lengthsOf, meshOf, read, refusedIn, tablesAfter, meshNumber}
 use Rattle.mesh.specs.declared.base.MeshCounts.{MeshCounts}
 use Rattle.mesh.specs.declared.base.Part.{Part}
-use Rattle.oysterfold.specs.Mesh.{countWords, meshInto, meshNumber, meshResult, meshWords, noCounts, partNumber, resultWords}
+use Rattle.oysterfold.specs.Mesh.{countWords, meshInto, meshResult, meshWords, noCounts, partNumber, resultWords}
 
 -- what the function hands back
 abbrev Handed : List ℕ → List ℕ → Tables → List ℕ → ℕ → Tables → List ℕ → Type 0

@@ -7,13 +7,12 @@ use borrow.Author.Tests.{le-ltb, lt-ltb}
 use lib.ListN.{drop, getD, length, set}
 use lib.Seq.{sets, sets-eq}
 use Rattle.fields.specs.Numbers.{noRoom, truncated}
-use Rattle.fields.specs.Judged.{Judged, done, refused, onDone}
+use Rattle.fields.specs.Judged.{Judged, done, refused, onDone, numberOf}
 use Rattle.fields.specs.Field.{fieldAt, littleEndian}
 use Rattle.fields.proofs.Judging.{not-done, same-done}
 use Rattle.mesh.specs.Declaration.{declarationOf, declarationRead}
 use Rattle.mesh.specs.declared.declaration.Declaration.{Declaration}
 use Rattle.mesh.specs.declared.declaration.DeclarationRead.{DeclarationRead}
-use Rattle.oysterfold.specs.Result.{numberOf}
 use Rattle.oysterfold.specs.Declaration.{Fields, declarationIn, declarationResult, fieldCount, fieldsAfter, fieldsIn, fieldsOf, fieldsWords, nameEnd, nameOffset, resultWords, wordsAt}
 use Rattle.mesh.proofs.Refusals.{Numbered, listed-some}
 use Rattle.oysterfold.proofs.Words.{words-more, words-none}

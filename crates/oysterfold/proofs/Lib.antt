@@ -9,4 +9,3 @@ pub mod WriteAnswers
 pub mod ReadAnswers
 pub mod Widths
 pub mod Contexts
-pub mod Returned

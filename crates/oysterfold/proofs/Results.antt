@@ -6,8 +6,8 @@ use borrow.Author.Tests.{le-ltb, lt-ltb}
 use lib.ListN.{length}
 use lib.Seq.{sets}
 use Rattle.fields.specs.Numbers.{noRoom}
-use Rattle.fields.specs.Judged.{Judged, refused}
-use Rattle.oysterfold.specs.Result.{answerIn, numberOf, resultOf, resultWords, wordsOf}
+use Rattle.fields.specs.Judged.{Judged, refused, numberOf}
+use Rattle.oysterfold.specs.Result.{answerIn, resultOf, resultWords, wordsOf}
 
 -- a function that judged `j` and tells `value` of it, with a table that then holds what `after` says
 module _ {A : Type 0} (j : Judged A) (value : Judged ℕ) (after : Judged A → List ℕ) (result : List ℕ) where

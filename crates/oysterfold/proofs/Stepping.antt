@@ -11,11 +11,11 @@ use Rattle.progressive.specs.declared.counts.Counts.{Counts}
 use Rattle.progressive.specs.declared.counts.Stepped as stepped
 use Rattle.progressive.specs.Mesh.{Mesh, meshOf}
 use Rattle.progressive.specs.Steps.{denied, granted, reply, replyOf}
-use Rattle.oysterfold.specs.Steps.{countWords, countsAfter, countsIn, handed, handedBy, numberOf, stepInto}
+use Rattle.oysterfold.specs.Steps.{countWords, countsAfter, countsIn, handed, handedBy, steppedNumber, stepInto}
 
 -- what an answer tells of the judgement, by its cases
 told-by : (r : stepped.Stepped) (j : Judged Mesh) (m : Mesh) (faces positions counts : List ℕ) → replyOf r faces positions ≡ reply j m
-    → handed (numberOf r) faces positions (countsAfter r counts) ≡ handedBy j (m .faces) (m .positions) counts
+    → handed (steppedNumber r) faces positions (countsAfter r counts) ≡ handedBy j (m .faces) (m .positions) counts
 told-by (stepped.the-variants.Done after) (done made) m faces positions counts e =
     let same : meshOf faces positions after ≡ made = granted-same e in
     ap (λ (x : Mesh). handedBy (done x) (m .faces) (m .positions) counts) same
@@ -37,7 +37,7 @@ told-by (stepped.the-variants.Refused x after) (refused n p) m faces positions c
 
 -- the counts after a step that is done
 pub stored-counts : {r : stepped.Stepped} {after : Counts} (counts : List ℕ) → r ≡ stepped.the-variants.Done after
-    → (0 ≡ numberOf r) × (set (set counts 0 (after .positions)) 1 (after .faces) ≡ countsAfter r counts)
+    → (0 ≡ steppedNumber r) × (set (set counts 0 (after .positions)) 1 (after .faces) ≡ countsAfter r counts)
 stored-counts counts e = rw e (refl, refl)
 
 module _ (step : Mesh → Judged Mesh) (faces positions counts : List ℕ) where
@@ -47,7 +47,7 @@ module _ (step : Mesh → Judged Mesh) (faces positions counts : List ℕ) where
 
   pub step-told : countWords ≤ length counts → (r : stepped.Stepped) (faces′ positions′ counts′ : List ℕ) (number : ℕ)
       → replyOf r faces′ positions′ ≡ reply (step (meshOf faces positions (countsIn counts))) (meshOf faces positions (countsIn counts))
-      → number ≡ numberOf r → counts′ ≡ countsAfter r counts
+      → number ≡ steppedNumber r → counts′ ≡ countsAfter r counts
       → handed number faces′ positions′ counts′ ≡ handedBy (stepInto step faces positions counts) faces positions counts
   unfolding stepInto
   step-told long r faces′ positions′ counts′ number e f g =

@@ -31,10 +31,6 @@ countWords place p c =
 unfoldable pub meshInto : List ℕ → List ℕ → Tables → List ℕ → InPart Mesh
 meshInto d s t result = pick (ltb (length result) resultWords) (refusedIn part.the-variants.Declaration noRoom 0) (meshOf d s (lengthsOf t))
 
-abbrev pub meshNumber : InPart Mesh → ℕ
-meshNumber (read m) = 0
-meshNumber (refusedIn p n place) = n
-
 abbrev pub meshWords : InPart Mesh → List ℕ
 meshWords (read m) = countWords 0 0 (countsOf m)
 meshWords (refusedIn p n place) = countWords place (partNumber p) noCounts

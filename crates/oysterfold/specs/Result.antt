@@ -10,10 +10,6 @@ use Rattle.fields.specs.Judged.{Judged, done, refused, pick, refusedIf}
 abbrev pub resultWords : ℕ
 resultWords = 2
 
-abbrev pub numberOf : {A : Type 0} → Judged A → ℕ
-numberOf (done value) = 0
-numberOf (refused n p) = n
-
 -- "place first; on a refusal the place and every other word of it 0"
 abbrev pub wordsOf : Judged ℕ → List ℕ
 wordsOf (done value) = 0 ∷ value ∷ []

@@ -37,9 +37,9 @@ handedBy (done m) faces positions counts = handed 0 (m .faces) (m .positions) (s
 handedBy (refused n p) faces positions counts = handed n faces positions counts
 
 -- the number of an answer, and the counts array after it
-abbrev pub numberOf : stepped.Stepped → ℕ
-numberOf (stepped.the-variants.Done after) = 0
-numberOf (stepped.the-variants.Refused e after) = e .number
+abbrev pub steppedNumber : stepped.Stepped → ℕ
+steppedNumber (stepped.the-variants.Done after) = 0
+steppedNumber (stepped.the-variants.Refused e after) = e .number
 
 abbrev pub countsAfter : stepped.Stepped → List ℕ → List ℕ
 countsAfter (stepped.the-variants.Done after) counts = sets counts 0 (after .positions ∷ after .faces ∷ [])

@@ -7,7 +7,8 @@ use climb::read_climb;
 use fields::numbers::NO_ROOM;
 ghost use mathlib.Core.Path.{_≡_};
 ghost use Rattle.climb.specs.Climb.{climbIn, tableAfter, wordCount};
-ghost use Rattle.oysterfold.specs.Result.{answerIn, numberOf, resultOf};
+ghost use Rattle.fields.specs.Judged.{numberOf};
+ghost use Rattle.oysterfold.specs.Result.{answerIn, resultOf};
 
 // Reads a climb text into the table of its steps; result: place (a line), number of words.
 #[no_mangle]

@@ -9,8 +9,7 @@ ghost use Prim.Native.Nat.{_+_, _*_, _≤_};
 ghost use lib.ListN.{length};
 ghost use lib.Seq.{sets};
 ghost use Rattle.fields.specs.Field.{littleEndian};
-ghost use Rattle.fields.specs.Judged.{refused};
-ghost use Rattle.oysterfold.specs.Result.{numberOf};
+ghost use Rattle.fields.specs.Judged.{refused, numberOf};
 ghost use Rattle.oysterfold.specs.Declaration.{declarationIn, declarationResult, fieldsAfter, fieldsIn, fieldsWords, nameEnd, resultWords, wordsAt};
 
 // Place, number of fields, name offset, name length.

@@ -7,10 +7,10 @@ use fields::numbers::NO_ROOM;
 use listing::Listing;
 use listing::list_file;
 ghost use mathlib.Core.Path.{_≡_};
-ghost use Rattle.fields.specs.Judged.{bufferAfter};
+ghost use Rattle.fields.specs.Judged.{bufferAfter, numberOf};
 ghost use Rattle.fields.specs.Limits.{largestFile};
 ghost use Rattle.listing.specs.Listing.{listingOf, written};
-ghost use Rattle.oysterfold.specs.Result.{answerIn, numberOf, resultOf};
+ghost use Rattle.oysterfold.specs.Result.{answerIn, resultOf};
 
 // Puts the listing of a file of at most 16 MiB at the start of `text`; a file that is refused is listed too. Result: place, number
 // of bytes.

@@ -6,8 +6,8 @@ use mesh::base::MeshRead;
 use mesh::base::Part;
 use mesh::base::read_mesh;
 ghost use mathlib.Core.Path.{_≡_};
-ghost use Rattle.mesh.specs.Base.{tables, tablesAfter};
-ghost use Rattle.oysterfold.specs.Mesh.{countWords, meshInto, meshNumber, meshResult, noCounts, partNumber};
+ghost use Rattle.mesh.specs.Base.{tables, tablesAfter, meshNumber};
+ghost use Rattle.oysterfold.specs.Mesh.{countWords, meshInto, meshResult, noCounts, partNumber};
 
 // Place, part, and the seven counts.
 const RESULT_WORDS: usize = 9;

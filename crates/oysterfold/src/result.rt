@@ -4,8 +4,8 @@ ghost use mathlib.Core.Path.{_≡_};
 ghost use Prim.Native.Nat.{_≤_};
 ghost use lib.ListN.{length};
 ghost use lib.Seq.{sets};
-ghost use Rattle.fields.specs.Judged.{done, refusedBy};
-ghost use Rattle.oysterfold.specs.Result.{numberOf, resultWords, valueTold, wordsOf};
+ghost use Rattle.fields.specs.Judged.{done, refusedBy, numberOf};
+ghost use Rattle.oysterfold.specs.Result.{resultWords, valueTold, wordsOf};
 
 // Place and value.
 pub(crate) const RESULT_WORDS: usize = 2;

@@ -8,7 +8,7 @@ ghost use mathlib.Core.Path.{_≡_};
 ghost use Prim.Native.Nat.{_≤_};
 ghost use lib.ListN.{length};
 ghost use Rattle.progressive.specs.Steps.{coarsened, refined};
-ghost use Rattle.oysterfold.specs.Steps.{countWords, countsAfter, countsIn, handed, handedBy, numberOf, stepInto};
+ghost use Rattle.oysterfold.specs.Steps.{countWords, countsAfter, countsIn, handed, handedBy, steppedNumber, stepInto};
 
 // Positions, then faces.
 const COUNT_WORDS: usize = 2;
@@ -26,7 +26,7 @@ fn counts_in(counts: &[u32]) -> Counts
 // The number of an answer; where it is 0 the counts after the step are stored.
 fn answer(stepped: Stepped, counts: &mut [u32]) -> u32
     requires { ⌜ countWords ≤ length (now counts) ⌝ }
-    ensures { λ r. ⌜ (r ≡ numberOf stepped) × (now (counts .exit) ≡ countsAfter stepped (now (counts .entry))) ⌝ }
+    ensures { λ r. ⌜ (r ≡ steppedNumber stepped) × (now (counts .exit) ≡ countsAfter stepped (now (counts .entry))) ⌝ }
 {
     match stepped {
         Stepped::Refused(e, _) => e.number,

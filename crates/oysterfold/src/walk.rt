@@ -6,9 +6,9 @@ use blocks::file::Walk;
 use blocks::file::walk_blocks;
 use fields::numbers::NO_ROOM;
 ghost use mathlib.Core.Path.{_≡_};
-ghost use Rattle.fields.specs.Judged.{bufferAfter};
+ghost use Rattle.fields.specs.Judged.{bufferAfter, numberOf};
 ghost use Rattle.blocks.specs.File.{fileWords, walkIn};
-ghost use Rattle.oysterfold.specs.Result.{answerIn, numberOf, resultOf};
+ghost use Rattle.oysterfold.specs.Result.{answerIn, resultOf};
 
 // Walks the blocks of a file into rows of five words; result: place, number of blocks.
 #[no_mangle]

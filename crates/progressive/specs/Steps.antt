@@ -63,10 +63,15 @@ coarsened t shadings m =
 
 -- ---- the answer, and the mesh after the call
 
--- done (01's number 0), or refused with number and place; and the tables and counts then
+-- done, or refused with number and place; and the tables and counts then
 pub data Reply : Type 0 where
   granted : Mesh → Reply
   denied : ℕ → ℕ → Mesh → Reply
+
+-- 01's number of it
+abbrev pub replyNumber : Reply → ℕ
+replyNumber (granted m) = 0
+replyNumber (denied n p m) = n
 
 -- "A refusal gives back number and place .., and the state that was handed in"
 abbrev pub reply : Judged Mesh → Mesh → Reply

@@ -11,16 +11,16 @@ use lib.Dec.{eqb}
 use Rattle.fields.specs.Judged.{Judged, done, refused, onDone}
 use Rattle.fields.specs.Numbers.{badSteps, noRoom, noStep, notAllowed}
 use Rattle.fields.proofs.Judging.{passed, same-done}
-use Rattle.mesh.specs.Base.{Tables, answered, lengthsOf, meshOf, read, tablesAfter}
-use Rattle.mesh.specs.declared.base.MeshCounts.{MeshCounts}
+use Rattle.mesh.specs.Base.{Tables, countsOf, lengthsOf, meshOf, read, tablesAfter}
+use Rattle.mesh.specs.Base as base
 use Rattle.progressive.specs.StepTable.{stepCount, stepOffset, wellFormed}
 use Rattle.progressive.specs.Mesh.{Mesh}
 use Rattle.progressive.specs.Rules.{allowed}
 use Rattle.progressive.specs.Steps.{Reply, granted, reply}
 use Rattle.progressive_theorems.specs.Calls.{Call, States, baseMesh, down, downsGranted, meshEnd, replies, up, upsGranted}
-use Rattle.progressive_theorems.specs.Tally.{levelAfter, levelEnd, meshAt, stepFits, tally, tallyDown, tallyOf, tallyUp}
-use Rattle.progressive_theorems.proofs.Following.{after-level, follows-tally}
-use Rattle.progressive_theorems.proofs.BaseRead.{read-based}
+use Rattle.progressive_theorems.specs.Tally.{levelAfter, levelEnd, meshAt, meshZero, stepFits, tally, tallyDown, tallyOf, tallyUp}
+use Rattle.progressive_theorems.proofs.Following.{after-level}
+use Rattle.progressive_theorems.proofs.CallList.{calls-follow-tally, left-zero}
 
 module _ (t : List ℕ) (shadings : ℕ) (base : Mesh) where
   -- ---- one call more
@@ -106,34 +106,39 @@ module _ (t : List ℕ) (shadings : ℕ) (base : Mesh) where
       omega (arith, level-counted calls 0) in
       mesh-end calls 0 ∙ ap (meshAt t base) same
 
-module _ (d s : List ℕ) (before after : Tables) (counts : MeshCounts) (e : answered (meshOf d s (lengthsOf before)) ≡ read counts)
-    (f : after ≡ tablesAfter (meshOf d s (lengthsOf before)) before) (steps : List ℕ) (states : States steps counts) (calls : List Call) where
+module _ (d s : List ℕ) (before : Tables) (m : base.Mesh) (e : meshOf d s (lengthsOf before) ≡ read m) (steps : List ℕ) (states : States steps (countsOf m))
+    (calls : List Call) where
+  -- what the reader left
   abbrev start : Mesh
-  start = baseMesh after counts
+  start = baseMesh (tablesAfter (meshOf d s (lengthsOf before)) before) (countsOf m)
+
+  -- the tally's mesh 0
+  abbrev zero : Mesh
+  zero = meshZero m (lengthsOf before)
 
   abbrev shadings : ℕ
-  shadings = counts .shadings
+  shadings = countsOf m .shadings
 
   abbrev k : ℕ
-  k = levelEnd steps shadings start 0 calls
+  k = levelEnd steps shadings zero 0 calls
 
-  follows : (list : List Call) → replies steps shadings start list ≡ tally steps shadings start 0 list
-  follows list = follows-tally steps shadings start (read-based d s before after counts e f steps states) list
+  follows : (list : List Call) → replies steps shadings start list ≡ tally steps shadings zero 0 list
+  follows = calls-follow-tally d s before m e steps states
 
   -- After any list of calls: if there is a step, its counts fit the tables, and the rules allow it on the mesh then, a call for it is granted.
-  pub allowed-is-granted : wellFormed steps ≡ true → k < stepCount steps → stepFits steps start k ≡ true
-      → allowed steps (stepOffset steps k) shadings (meshAt steps start k) ≡ true
-      → replies steps shadings start (calls ++ (up ∷ [])) ≡ replies steps shadings start calls ++ (granted (meshAt steps start (k + 1)) ∷ [])
+  pub allowed-is-granted : wellFormed steps ≡ true → k < stepCount steps → stepFits steps zero k ≡ true
+      → allowed steps (stepOffset steps k) shadings (meshAt steps zero k) ≡ true
+      → replies steps shadings start (calls ++ (up ∷ [])) ≡ replies steps shadings start calls ++ (granted (meshAt steps zero (k + 1)) ∷ [])
   allowed-is-granted form more fit ok =
-      rw (follows (calls ++ (up ∷ [])), follows calls, tally-append steps shadings start calls (up ∷ []) 0, tally-granted steps shadings start k form more fit ok)
+      rw (follows (calls ++ (up ∷ [])), follows calls, tally-append steps shadings zero calls (up ∷ []) 0, tally-granted steps shadings zero k form more fit ok)
 
   -- After any list of calls in which as many steps down as up were granted, tables and counts are those of the base mesh.
   pub every-number-back : upsGranted calls (replies steps shadings start calls) ≡ downsGranted calls (replies steps shadings start calls)
       → meshEnd start (replies steps shadings start calls) ≡ start
-  every-number-back = rw (follows calls) (back-at-base steps shadings start calls)
+  every-number-back = rw (follows calls, left-zero d s before m e) (back-at-base steps shadings zero calls)
 
   -- After any list of calls, tables and counts are the base mesh with the list's first k steps laid on it, k being the ups granted less the
   -- downs granted.
   pub ups-less-downs : meshEnd start (replies steps shadings start calls)
-      ≡ meshAt steps start (upsGranted calls (replies steps shadings start calls) - downsGranted calls (replies steps shadings start calls))
-  ups-less-downs = rw (follows calls) (mesh-counted steps shadings start calls)
+      ≡ meshAt steps zero (upsGranted calls (replies steps shadings start calls) - downsGranted calls (replies steps shadings start calls))
+  ups-less-downs = rw (follows calls, left-zero d s before m e) (mesh-counted steps shadings zero calls)

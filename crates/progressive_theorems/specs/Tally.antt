@@ -3,9 +3,11 @@ use mathlib.Core.Bool.{Bool, not}
 use mathlib.Core.List.{List, [], _∷_}
 use Prim.Native.Nat.{ℕ, zero, suc, _+_, _-_}
 use lib.Dec.{eqb}
-use lib.ListN.{length}
+use lib.ListN.{getD, length}
 use Rattle.fields.specs.Numbers.{badSteps, noRoom, noStep, notAllowed}
 use Rattle.fields.specs.Judged.{Judged, done, refused, onDone, refusedIf}
+use Rattle.mesh.specs.Run.{filled}
+use Rattle.mesh.specs.Base as base
 use Rattle.progressive.specs.StepTable.{newFaceCount, stepCount, stepOffset, wellFormed}
 use Rattle.progressive.specs.Mesh.{Mesh, fits}
 use Rattle.progressive.specs.Rules.{allowed}
@@ -13,8 +15,16 @@ use Rattle.progressive.specs.Laying.{laid}
 use Rattle.progressive.specs.Steps.{Reply, reply}
 use Rattle.progressive_theorems.specs.Calls.{Call, up, down}
 
--- "Mesh 0 is the base mesh, all room past it 0; mesh k+1 is mesh k with step k laid on it". The base that is handed in has those zeros
--- (proofs/CallList.antt)
+-- "Mesh 0 is the base mesh, all room past it 0", in tables of these lengths
+abbrev pub meshZero : base.Mesh → List ℕ → Mesh
+meshZero m lengths = record {
+  faces = filled (getD lengths 0 0) 0 (m .faces);
+  positions = filled (getD lengths 1 0) 0 (getD (m .pools) 0 []);
+  faceCount = getD (m .counts) 0 0;
+  positionCount = getD (m .counts) 1 0;
+}
+
+-- "mesh k+1 is mesh k with step k laid on it"
 unfoldable pub meshAt : List ℕ → Mesh → ℕ → Mesh
 meshAt t base zero = base
 meshAt t base (suc k) = laid t (stepOffset t k) (meshAt t base k)

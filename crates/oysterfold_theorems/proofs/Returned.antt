@@ -6,18 +6,18 @@ use mathlib.Core.List.{List, [], map}
 use borrow.Author.Tests.{le-ltb}
 use native.Mathlib.Omega.{arith}
 use lib.Dec.{eqb, leb}
-use lib.ListN.{getD, length, length-map, length-set, length-take, take}
+use lib.ListN.{getD, length, length-map, length-set, length-take, take, take-append-drop}
 use lib.Seq.{sets, sets-eq, take-at}
 use Rattle.fields.specs.Judged.{pick}
 use Rattle.coder.proofs.Judgements.{limits-true, writer-true}
 use Rattle.coder.proofs.Spans.{dynamic-cases}
 use Rattle.coder.specs.Bytes.{bitAt}
-use Rattle.coder.specs.Histogram.{Histogram, addAt, halve, histogramFormed, largestTotal, raised, sum, symbols, thinned}
-use Rattle.coder.specs.Interval.{WellFormed}
+use Rattle.coder.specs.Histogram.{Histogram, addAt, freshHistogram, halve, histogramFormed, largestTotal, raised, sum, symbols, thinned}
+use Rattle.coder.specs.Interval.{WellFormed, fresh}
 use Rattle.coder.specs.Reading.{Taken, takeDynamic, takeNumber, takePlain, takeStatic, taken, takenHistogram}
 use Rattle.coder.specs.Symbols.{dynamicAfter}
 use Rattle.coder.specs.Values.{nextSymbol, readAfter, readDynamic, symbolAfter}
-use Rattle.coder.specs.Writing.{Write, dynamicNumber, end, kept, writtenHistogram}
+use Rattle.coder.specs.Writing.{Write, dynamicNumber, end, freshWriter, kept, write, writeDynamic, writtenHistogram}
 use Rattle.coder.specs.declared.interval.Coder.{Coder}
 use Rattle.coder.specs.declared.interval.Span.{Span}
 use Rattle.coder.specs.declared.read.Found.{Found}
@@ -25,9 +25,10 @@ use Rattle.coder.specs.declared.write.Writer.{Writer}
 use Rattle.coder_theorems.specs.Runs.{Context, Histograms, callRead, callWrite, dynamic, plain, static}
 use Rattle.coder_theorems.proofs.Calls.{call-done, call-refused, end-done, end-refused}
 use Rattle.coder_theorems.proofs.States.{end-formed, takeDynamic-handed, takePlain-handed, takeStatic-handed, writeDynamic-formed, writePlain-formed, writeStatic-formed}
 use Rattle.oysterfold.specs.CoderState.{coderIn, coderLength, coderWords, flagOf, histogramInto, lowIn, noLimit, writerIn, writerLength, writerWords}
+use Rattle.oysterfold.specs.Fresh.{storedInto}
 use Rattle.oysterfold.specs.Writing.{endWrite, handedBy}
 use Rattle.oysterfold.specs.Reading as reading
 
 -- A state of the coder, whose limits are U32s.
 pub coder-returned : (state : List ℕ) (s : Coder) → coderLength ≤ length state → s .low ≤ noLimit → s .high ≤ noLimit
@@ -164,3 +165,37 @@ module _ (histogram : List ℕ) (long : symbols ≤ length histogram) where
   pub taken-carried : (d : List ℕ) (s : Coder)
       → (let after = takenHistogram (take symbols histogram) d s in take symbols (histogramInto false after histogram) ≡ after)
   taken-carried d s = into-carried _ (taken-length (take symbols histogram) d s)
+
+  -- A refused write or read leaves the whole array as it was lent.
+  kept-left : (short : Bool) (n : ℕ) (later : List ℕ) → (n ≡ 0 → ⊥) → histogramInto short (kept n later (take symbols histogram)) histogram ≡ histogram
+  unfolding histogramInto
+  kept-left true n later h = refl
+  kept-left false zero later h = absurd (h refl)
+  kept-left false (suc n) later h =
+      let many : length (take symbols histogram) ≡ symbols = simp length-take (omega arith) in
+      rw (sets-eq (take symbols histogram) histogram 0 (omega arith), many) (take-append-drop symbols histogram)
+
+  pub write-left : (short : Bool) (l : List ℕ) (w : Writer) (v : ℕ) → ((writeDynamic (take symbols histogram) l w v) .number ≡ 0 → ⊥)
+      → histogramInto short (writtenHistogram (take symbols histogram) l w v) histogram ≡ histogram
+  unfolding writtenHistogram writeDynamic write
+  write-left short l w v h = kept-left short (dynamicNumber (take symbols histogram) l w v) _ (λ e. h (rw e refl))
+
+  pub read-left : (short : Bool) (d : List ℕ) (s : Coder) → ((takeDynamic (take symbols histogram) d s) .number ≡ 0 → ⊥)
+      → histogramInto short (takenHistogram (take symbols histogram) d s) histogram ≡ histogram
+  unfolding takenHistogram takeDynamic taken
+  read-left short d s h = kept-left short (takeNumber true _ d s _) _ (λ e. h (rw e refl))
+
+-- ---- what the fresh functions store
+
+module _ (array : List ℕ) where
+  pub writer-fresh : writerLength ≤ length array → writerIn (storedInto (writerWords freshWriter) array .words) ≡ freshWriter
+  unfolding storedInto
+  writer-fresh long = rw (le-ltb _ _ long) (writer-returned array freshWriter long (omega arith) (omega arith))
+
+  pub reader-fresh : coderLength ≤ length array → coderIn (storedInto (coderWords fresh) array .words) ≡ fresh
+  unfolding storedInto
+  reader-fresh long = rw (le-ltb _ _ long) (coder-returned array fresh long (omega arith) (omega arith))
+
+  pub histogram-fresh : symbols ≤ length array → take symbols (storedInto freshHistogram array .words) ≡ freshHistogram
+  unfolding storedInto
+  histogram-fresh long = rw (le-ltb (length array) symbols long) (histogram-returned array freshHistogram long refl)

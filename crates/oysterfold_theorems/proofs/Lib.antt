@@ -1,0 +1,4 @@
+pub mod Returned
+pub mod ExportedRuns
+pub mod ExportedReads
+pub mod ExportedRoundTrip
