@@ -7,7 +7,9 @@ use lib.ListN.{length}
 use Rattle.fields.specs.Numbers.{truncated, badName}
 use Rattle.fields.specs.Limits.{longestName}
 use Rattle.fields.specs.Judged.{Judged, done, refused, onDone, refusedIf}
-use Rattle.fields.specs.Field.{fieldAt, bytesAt}
+use Rattle.fields.specs.Field.{fieldAt}
+use Rattle.fields.specs.Bounds.{partOf}
+use Rattle.fields.specs.declared.bounds.Bounds.{Bounds}
 use Rattle.fields.specs.declared.name.StringField as string
 use Rattle.fields.specs.declared.name.NameField as name
 
@@ -19,13 +21,13 @@ stringAt s at = onDone (fieldAt 2 s at) λ size. refusedIf (ltb (length s) (at +
 unfoldable pub nameAt : List ℕ → ℕ → Judged ℕ
 nameAt s at = onDone (stringAt s at) λ size. refusedIf (ltb longestName size) badName at (done size)
 
--- "A name is handed out as a part of the caller's bytes"; none where it is refused
-abbrev pub nameBytes : List ℕ → ℕ → Judged ℕ → List ℕ
-nameBytes s at (done size) = bytesAt s (at + 2) size
-nameBytes s at (refused n p) = []
+-- the bytes of that name, which follow its length
+unfoldable pub nameBounds : List ℕ → ℕ → Judged Bounds
+nameBounds s at = onDone (nameAt s at) λ size. done (record { at = at + 2; size = size })
 
+-- "A name is handed out as a part of the caller's bytes"; none where it is refused
 unfoldable pub namePart : List ℕ → ℕ → List ℕ
-namePart s at = nameBytes s at (nameAt s at)
+namePart s at = partOf s (nameBounds s at)
 
 -- two names are the same
 unfoldable pub same : List ℕ → List ℕ → Bool

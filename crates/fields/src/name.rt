@@ -1,11 +1,17 @@
 // Strings (a U16 length, then as many bytes), and names, which are strings of at most 255 bytes.
+use crate::bounds::Bounds;
+use crate::bounds::BoundsAnswer;
+use crate::bounds::part_of;
 use crate::field::U16Field;
-use crate::field::bytes_at;
 use crate::field::passes;
 use crate::field::u16_at;
 use crate::limits::LONGEST_NAME;
+use crate::numbers::BAD_NAME;
+use crate::numbers::Refusal;
+use crate::numbers::TRUNCATED;
 ghost use mathlib.Core.Path.{_≡_};
-ghost use Rattle.fields.specs.Name.{stringAt, stringGiven, nameAt, nameGiven, namePart, same};
+ghost use Rattle.fields.specs.Bounds.{boundsGiven};
+ghost use Rattle.fields.specs.Name.{stringAt, stringGiven, nameAt, nameGiven, nameBounds, namePart, same};
 
 pub enum StringField {
     Size(usize),
@@ -49,15 +55,28 @@ pub fn name_at(s: &[u8], at: usize) -> NameField
     }
 }
 
+// Where the bytes of the name at `at` stand.
+pub fn name_bounds(s: &[u8], at: usize) -> BoundsAnswer
+    ensures { λ r. ⌜ boundsGiven r ≡ nameBounds (now (s .entry)) at ⌝ }
+{
+    match name_at(s, at) {
+        NameField::Missing => BoundsAnswer::Refused(Refusal {
+            number: TRUNCATED,
+            place: at,
+        }),
+        NameField::Long => BoundsAnswer::Refused(Refusal {
+            number: BAD_NAME,
+            place: at,
+        }),
+        NameField::Size(size) => BoundsAnswer::Found(Bounds { at: at + 2, size }),
+    }
+}
+
 // The bytes of the name at `at`, as a part of `s`; the empty part where there is no name.
 pub fn name_part(s: &[u8], at: usize) -> &[u8]
     ensures { λ r. ⌜ now r ≡ namePart (now (s .entry)) at ⌝ }
 {
-    match name_at(s, at) {
-        NameField::Missing => &s[..0],
-        NameField::Long => &s[..0],
-        NameField::Size(size) => bytes_at(s, at + 2, size),
-    }
+    part_of(s, name_bounds(s, at))
 }
 
 // Whether two names are the same, byte by byte.

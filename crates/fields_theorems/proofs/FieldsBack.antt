@@ -10,7 +10,7 @@ use native.Mathlib.Omega.{arith}
 use borrow.Author.Tests.{eq-eqb, le-ltb}
 use Rattle.fields.specs.Field.{bytesAt, fieldAt, littleEndian}
 use Rattle.fields.specs.Limits.{longestName}
-use Rattle.fields.specs.Name.{nameAt, namePart, same, stringAt}
+use Rattle.fields.specs.Name.{nameAt, nameBounds, namePart, same, stringAt}
 use Rattle.fields.specs.Judged.{done}
 use Rattle.fields_theorems.specs.Encoding.{bytesOf, nameBytes, wordBytes}
 use Rattle.fields_theorems.proofs.Seams.{first-at, past, second-at, within}
@@ -89,14 +89,20 @@ name-back s name rest at h here =
     let field = field-back 2 s (name ++ rest) at (length name) (omega arith) (omega arith) bytes in
     rw (field, le-ltb (length s) (at + (length name + 2)) (name-room s name rest at here), le-ltb longestName (length name) h)
 
--- and handed out as it stands
+-- its bytes follow the length
+pub name-bounds-back : (s name rest : List ℕ) (at : ℕ) → length name ≤ longestName → drop at s ≡ nameBytes name ++ rest
+    → nameBounds s at ≡ done (record { at = at + 2; size = length name })
+unfolding nameBounds
+name-bounds-back s name rest at h here = rw (name-back s name rest at h here)
+
+-- and are handed out as they stand
 pub name-part : (s name rest : List ℕ) (at : ℕ) → length name ≤ longestName → drop at s ≡ nameBytes name ++ rest → namePart s at ≡ name
 unfolding namePart bytesAt nameBytes
 name-part s name rest at h here =
     let bytes = here ∙ append-assoc (bytesOf 2 (length name)) name rest in
     let from : drop (at + 2) s ≡ name ++ rest = past s (bytesOf 2 (length name)) (name ++ rest) at bytes 2 (length-bytesOf 2 (length name)) in
     let room : at + 2 + length name ≤ length s = omega (arith, name-room s name rest at here) in
-    rw (name-back s name rest at h here, le-ltb (length s) (at + 2 + length name) room, from) (take-append-seam name rest)
+    rw (name-bounds-back s name rest at h here, le-ltb (length s) (at + 2 + length name) room, from) (take-append-seam name rest)
 
 -- a name is the same as itself
 pub same-name : (name : List ℕ) → same name name ≡ true
