@@ -2,6 +2,7 @@
 pub mod Members
 pub mod Zeros
 pub mod Fits
+pub mod Within
 pub mod Lines
 pub mod Stores
 pub mod Turns

@@ -56,11 +56,12 @@ judgedAt s at head remaining continued =
 unfoldable pub blockAt : List ℕ → ℕ → ℕ → Bool → Judged Block
 blockAt s at remaining continued = onDone (headAt s at) λ head. judgedAt s at head remaining continued
 
--- the same for a caller that lends any bytes
+-- the same for a caller that lends any bytes; with more than four chains to enter "chains deeper than 4" could follow
 unfoldable pub blockIn : List ℕ → ℕ → ℕ → Bool → Judged Block
 blockIn s at remaining continued =
     refusedIf (ltb largestFile (length s)) overLimit 0
-    (pick (eqb remaining levels) (blockAt s at remaining continued) (inChain (blockAt s at remaining continued)))
+    (refusedIf (ltb levels remaining) badChain at
+    (pick (eqb remaining levels) (blockAt s at remaining continued) (inChain (blockAt s at remaining continued))))
 
 -- 01's number, place and values of each case
 abbrev pub blockGiven : BlockAnswer → Judged Block

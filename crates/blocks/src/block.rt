@@ -120,8 +120,8 @@ pub(crate) fn block_at(s: &[u8], at: usize, remaining: u32, continued: bool) -> 
     }
 }
 
-// The block at `at` of a file: LEVELS `remaining` at the top. Of a block inside a chain the bytes are lent up to the chain's end,
-// and one less remains for each chain around it.
+// The block at `at` of a file: LEVELS `remaining` at the top, and more are refused. Of a block inside a chain the bytes are lent up to
+// the chain's end, and one less remains for each chain around it.
 pub fn read_block(file: &[u8], at: usize, remaining: u32, continued: bool) -> BlockAnswer
     ensures { λ r. ⌜ blockGiven r ≡ blockIn (now (file .entry)) at remaining continued ⌝ }
 {
@@ -129,6 +129,12 @@ pub fn read_block(file: &[u8], at: usize, remaining: u32, continued: bool) -> Bl
         return BlockAnswer::Refused(Refusal {
             number: OVER_LIMIT,
             place: 0,
+        });
+    }
+    if LEVELS < remaining {
+        return BlockAnswer::Refused(Refusal {
+            number: BAD_CHAIN,
+            place: at,
         });
     }
     let answer = block_at(file, at, remaining, continued);

@@ -71,6 +71,17 @@ paddings-refusing numbers s e m a b c d =
     (zeros-refusing numbers len (e .«meta_at» - e .«data_end») s (e .«data_end») m (omega arith)) λ _ _.
     zeros-refusing numbers len (e .next - e .«meta_end») s (e .«meta_end») m (omega arith)
 
+-- a name
+pub name-refusing : (numbers s : List ℕ) → member truncated numbers ≡ true → member badName numbers ≡ true → (at : ℕ) → at ≤ length s
+    → Refusing numbers (length s) (nameAt s at)
+unfolding nameAt stringAt Refusing
+name-refusing numbers s m k at h =
+    let len = length s in
+    on-done numbers len (stringAt s at) _
+    (on-done numbers len (fieldAt 2 s at) _ (field-refusing numbers len 2 s at m h) λ size _.
+    refused-if numbers len (ltb len (at + (size + 2))) truncated at _ m h λ _. tt) λ size _.
+    refused-if numbers len (ltb longestName size) badName at _ k h λ _. tt
+
 -- a chain's fields, from the bytes up to its end
 module _ (s : List ℕ) where
   count-refusing : (from to : ℕ) → from ≤ length s → from ≤ to → Refusing blockNumbers (length s) (countAt s from to)
@@ -95,19 +106,10 @@ module _ (s : List ℕ) where
       picked blockNumbers len (eqb attributes 0) _ (refused badChain (next + 4))
       (λ _. count-refusing (next + 8) (at + alignedTo (size + 10)) (omega arith) (omega arith)) (λ _. (refl, kind-within))
 
-  name-refusing : (at : ℕ) → at ≤ length s → Refusing blockNumbers (length s) (nameAt s at)
-  unfolding nameAt stringAt Refusing
-  name-refusing at h =
-      let len = length s in
-      on-done blockNumbers len (stringAt s at) _
-      (on-done blockNumbers len (fieldAt 2 s at) _ (field-refusing blockNumbers len 2 s at refl h) λ size _.
-      refused-if blockNumbers len (ltb len (at + (size + 2))) truncated at _ refl h λ _. tt) λ size _.
-      refused-if blockNumbers len (ltb longestName size) badName at _ refl h λ _. tt
-
   chain-refusing : (at : ℕ) → at ≤ length s → Refusing blockNumbers (length s) (chainAt s at)
   unfolding chainAt
   chain-refusing at h =
-      on-done blockNumbers (length s) (nameAt s at) _ (name-refusing at h) λ size e. fields-refusing at size (name-within s at size e .0)
+      on-done blockNumbers (length s) (nameAt s at) _ (name-refusing blockNumbers s refl refl at h) λ size e. fields-refusing at size (name-within s at size e .0)
 
 -- a block that may not stand where it does
 standing-refusing : (kind : Kind) (remaining : ℕ) (continued : Bool) → eqb (standingOf kind remaining continued) 0 ≡ false
@@ -136,7 +138,7 @@ module _ (s : List ℕ) (at : ℕ) where
       let inner = take (e .«data_end») s in
       let size = length-take-le (e .«data_end») s l in
       let fields = inChain (chainAt inner (at + 12)) in
-      let refusing = in-chain (length inner) (chainAt inner (at + 12)) (chain-refusing inner (at + 12) (omega arith)) in
+      let refusing = in-chain chainNumbers (length inner) (chainAt inner (at + 12)) refl (chain-refusing inner (at + 12) (omega arith)) in
       picked blockNumbers (length s) (isChain kind) _ _
       (λ _. on-done blockNumbers (length s) fields _
       (wider chainNumbers blockNumbers (length inner) (length s) fields refl (omega arith) refusing) λ _ _. tt) (λ _. tt)
@@ -167,7 +169,15 @@ unfolding blockIn Refusing
 block-in-refusing s at remaining continued end h l =
     by (eqb remaining levels) (blockAt s at remaining continued) (block-refusing s at remaining continued end h l)
   where
+    -- the two tests before it, for numbers that 7 and 9 are among
+    after : (numbers : List ℕ) (b : Judged Block) → member overLimit numbers ≡ true → member badChain numbers ≡ true → Refusing numbers end b
+        → Refusing numbers end (refusedIf (ltb largestFile (length s)) overLimit 0 (refusedIf (ltb levels remaining) badChain at b))
+    after numbers b m k r =
+        refused-if numbers end (ltb largestFile (length s)) overLimit 0 _ m (omega arith) λ _.
+        refused-if numbers end (ltb levels remaining) badChain at b k h λ _. r
+
     by : (top : Bool) (b : Judged Block) → Refusing blockNumbers end b
-        → Refusing (pick top blockNumbers chainNumbers) end (refusedIf (ltb largestFile (length s)) overLimit 0 (pick top b (inChain b)))
-    by true b r = refused-if blockNumbers end (ltb largestFile (length s)) overLimit 0 b refl (omega arith) (λ _. r)
-    by false b r = refused-if chainNumbers end (ltb largestFile (length s)) overLimit 0 (inChain b) refl (omega arith) (λ _. in-chain end b r)
+        → Refusing (pick top blockNumbers chainNumbers) end
+        (refusedIf (ltb largestFile (length s)) overLimit 0 (refusedIf (ltb levels remaining) badChain at (pick top b (inChain b))))
+    by true b r = after blockNumbers b refl refl r
+    by false b r = after chainNumbers (inChain b) refl refl (in-chain chainNumbers end b refl r)

@@ -129,7 +129,7 @@ inside-refusing (suc remaining) s at b f =
     let walked = walkOf remaining (b .contents .count) inner (b .contents .at) false in
     let refusing = blocks-refusing (insideOf remaining) remaining (inside-refusing remaining) (b .contents .count) inner (b .contents .at) false
     (omega (arith, f .inside)) in
-    let chained = in-chain (length inner) (walked .ending) refusing in
+    let chained = in-chain chainNumbers (length inner) (walked .ending) refl refusing in
     by (isChain (b .kind)) walked (wider chainNumbers blockNumbers (length inner) (length s) (inChain (walked .ending)) refl (omega arith) chained)
   where
     by : (t : Bool) (o : Outcome) → Refusing blockNumbers (length s) (inChain (o .ending))

@@ -5,7 +5,11 @@ pub mod Found
 pub mod Refusing
 pub mod BlockNumbers
 pub mod FileNumbers
+-- So has every refusal of a part, and what is found lies within the file.
+pub mod PartsFound
+pub mod PartNumbers
 -- Every row names the parts of its block.
+pub mod Bounded
 pub mod RowsStand
 pub mod RowsParted
 -- A file laid out by the rules is walked to its rows.

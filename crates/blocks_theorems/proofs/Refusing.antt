@@ -6,11 +6,12 @@ use mathlib.Core.Path.{_≡_, refl}
 use native.Mathlib.Omega.{arith}
 use borrow.Author.Tests.{eqb-true}
 use lib.Dec.{eqb}
+use Rattle.fields.specs.Numbers.{truncated, badChain}
 use Rattle.fields.specs.Judged.{Judged, done, refused, onDone, refusedIf, pick}
 use Rattle.blocks.specs.Kind.{member}
 use Rattle.blocks.specs.Chain.{inChain}
 use Rattle.blocks.specs.Walk.{Outcome, andThen, onJudged}
-use Rattle.blocks_theorems.specs.Refusals.{Refusing, chainNumbers, blockNumbers}
+use Rattle.blocks_theorems.specs.Refusals.{Refusing}
 
 module _ {A B : Type 0} (numbers : List ℕ) (end : ℕ) where
   pub on-done : (j : Judged A) (next : A → Judged B) → Refusing numbers end j → ((a : A) → j ≡ done a → Refusing numbers end (next a))
@@ -67,12 +68,13 @@ unfolding Refusing
 wider these others end end′ (done a) e l h = tt
 wider these others end end′ (refused n p) e l h = (in-both these others n e (h .0), omega (arith, h .1))
 
--- what is refused inside a chain
-pub in-chain : {A : Type 0} (end : ℕ) (j : Judged A) → Refusing blockNumbers end j → Refusing chainNumbers end (inChain j)
+-- what is refused inside a chain: 7 for 1
+pub in-chain : {A : Type 0} (numbers : List ℕ) (end : ℕ) (j : Judged A) → member badChain numbers ≡ true → Refusing (truncated ∷ numbers) end j
+    → Refusing numbers end (inChain j)
 unfolding Refusing
-in-chain end (done a) h = tt
-in-chain end (refused n p) h = by (eqb n 1) (h .0)
+in-chain numbers end (done a) k h = tt
+in-chain numbers end (refused n p) k h = by (eqb n truncated) (h .0)
   where
-    by : (t : Bool) → pick t true (member n chainNumbers) ≡ true → (member (pick t 7 n) chainNumbers ≡ true) × (p ≤ end)
-    by true m = (refl, h .1)
+    by : (t : Bool) → pick t true (member n numbers) ≡ true → (member (pick t badChain n) numbers ≡ true) × (p ≤ end)
+    by true m = (k, h .1)
     by false m = (m, h .1)

@@ -4,13 +4,12 @@ use mathlib.Core.List.{List}
 use mathlib.Core.Path.{_≡_, refl, ap, _∙_}
 use native.Mathlib.Omega.{arith}
 use borrow.Author.Tests.{le-ltb}
-use lib.ListN.{drop, length, length-drop, take}
-use lib.Seq.{length-take-le}
+use lib.ListN.{drop, length, take}
 use Rattle.fields.specs.Limits.{largestFile}
 use Rattle.fields.specs.Judged.{Judged, done, refused}
-use Rattle.fields.specs.Field.{bytesAt, fieldAt}
+use Rattle.fields.specs.Field.{fieldAt}
 use Rattle.blocks.specs.Head.{headAt, extentOf}
-use Rattle.blocks.specs.Parts.{headIn, dataPart, metaPart}
+use Rattle.blocks.specs.Parts.{headIn, metaBounds, dataPart, metaPart}
 use Rattle.blocks.specs.Walk.{onJudged}
 use Rattle.blocks.specs.File.{afterFirst, fileOf}
 use Rattle.blocks.specs.Header.{firstOf}
@@ -19,16 +18,9 @@ use Rattle.blocks.specs.declared.header.First.{First}
 use Rattle.blocks.specs.declared.tell.Row.{Row}
 use Rattle.blocks.proofs.Files.{first-fits}
 use Rattle.blocks_theorems.specs.RowParts.{Stands, Parted, Each, dataAt, metaAt}
+use Rattle.blocks_theorems.proofs.PartsFound.{bytes-length, bytes-taken}
+use Rattle.blocks_theorems.proofs.Bounded.{data-bounded, meta-bounded}
 use Rattle.blocks_theorems.proofs.RowsStand.{each-map, rows-stand}
-
--- so many bytes of a list that has them
-module _ (s : List ℕ) (at size : ℕ) (h : at + size ≤ length s) where
-  bytes-taken : bytesAt s at size ≡ take size (drop at s)
-  unfolding bytesAt
-  bytes-taken = rw (le-ltb (length s) (at + size) h)
-
-  bytes-length : length (take size (drop at s)) ≡ size
-  bytes-length = length-take-le size (drop at s) (omega (arith, length-drop at s))
 
 module _ (s : List ℕ) (row : Row) (small : length s ≤ largestFile) (h : Stands s row) where
   -- the leading numbers that the row names
@@ -56,12 +48,16 @@ module _ (s : List ℕ) (row : Row) (small : length s ≤ largestFile) (h : Stan
       let data-room : dataAt row + row .«data_size» ≤ length s = omega (arith, h .ends) in
       let aligned : extentOf (row .offset) headOf .«meta_at» ≡ metaAt row = omega arith in
       let meta-room : extentOf (row .offset) headOf .«meta_at» + row .«meta_size» ≤ length s = omega (arith, h .ends) in
-      let data-there : dataPart s (row .offset) ≡ take (row .«data_size») (drop (dataAt row) s) = rw head-there (bytes-taken s (dataAt row) (row .«data_size») data-room) in
-      let meta-there : metaPart s (row .offset) ≡ take (row .«meta_size») (drop (metaAt row) s)
-      = rw head-there (bytes-taken s (extentOf (row .offset) headOf .«meta_at») (row .«meta_size») meta-room ∙ ap (λ (n : ℕ). take (row .«meta_size») (drop n s)) aligned) in
+      let data-found = data-bounded s (row .offset) headOf head-there data-room in
+      let meta-found : metaBounds s (row .offset) ≡ done (record { at = metaAt row; size = row .«meta_size» })
+      = rw (← aligned) (meta-bounded s (row .offset) headOf head-there meta-room) in
+      let data-there : dataPart s (row .offset) ≡ take (row .«data_size») (drop (dataAt row) s) = rw data-found (bytes-taken s (dataAt row) (row .«data_size») data-room) in
+      let meta-there : metaPart s (row .offset) ≡ take (row .«meta_size») (drop (metaAt row) s) = rw meta-found (bytes-taken s (metaAt row) (row .«meta_size») (h .ends)) in
       record {
+        data-bounds = data-found;
         data-part = data-there;
         data-length = ap length data-there ∙ bytes-length s (dataAt row) (row .«data_size») data-room;
+        meta-bounds = meta-found;
         meta-part = meta-there;
         meta-length = ap length meta-there ∙ bytes-length s (metaAt row) (row .«meta_size») (h .ends);
       }

@@ -4,13 +4,17 @@ use Prim.Native.Nat.{ℕ, _+_}
 use mathlib.Core.List.{List}
 use mathlib.Core.Path.{_≡_}
 use lib.ListN.{length}
-use Rattle.blocks.specs.Parts.{dataPart, metaPart, chainName}
+use Rattle.fields.specs.Judged.{done}
+use Rattle.blocks.specs.Parts.{dataBounds, metaBounds, chainNameBounds, dataPart, metaPart, chainName}
+use Rattle.blocks_theorems.specs.RowParts.{padding}
 use Rattle.blocks_theorems.specs.Layout.{Blocks, none, block, chain, File, blockBytes, blocksBytes, chainData, chainFields, modifierChain, countOf}
 use Rattle.blocks_theorems.specs.Layout.{headerBytes, headerSize}
 
--- of the block at `at`
+-- of the block at `at`: where its parts are found, and what they are
 pub record HandedAt (s : List ℕ) (at : ℕ) (content meta : List ℕ) : Type 0 where
+  pub data-bounds : dataBounds s at ≡ done (record { at = at + 12; size = length content })
   pub data-part : dataPart s at ≡ content
+  pub meta-bounds : metaBounds s at ≡ done (record { at = at + 12 + length content + padding (length content); size = length meta })
   pub meta-part : metaPart s at ≡ meta
 
 -- of blocks of which the first stands at `at`
@@ -19,6 +23,7 @@ Handed s at none = Unit {0}
 Handed s at (block type content meta more) = HandedAt s at content meta × Handed s (at + length (blockBytes type content meta)) more
 Handed s at (chain name type inside meta more) =
     HandedAt s at (chainData name type inside) meta
+    × (chainNameBounds s at ≡ done (record { at = at + 12 + 2; size = length name }))
     × (chainName s at ≡ name)
     × Handed s (at + 12 + length (chainFields name type (countOf inside))) inside
     × Handed s (at + length (blockBytes modifierChain (chainData name type inside) meta)) more

@@ -29,6 +29,14 @@ blockNumbers = 1 ∷ chainNumbers
 abbrev pub numbersAt : ℕ → List ℕ
 numbersAt remaining = pick (eqb remaining levels) blockNumbers chainNumbers
 
+-- of a block's data or meta data
+abbrev pub partNumbers : List ℕ
+partNumbers = 1 ∷ 9 ∷ []
+
+-- of a chain's name, which is judged within the chain: cut it is 7, not 1
+abbrev pub chainNameNumbers : List ℕ
+chainNameNumbers = 1 ∷ 7 ∷ 8 ∷ 9 ∷ 11 ∷ []
+
 -- of a whole file
 abbrev pub fileNumbers : List ℕ
 fileNumbers = 1 ∷ 2 ∷ 3 ∷ 4 ∷ 5 ∷ 6 ∷ 7 ∷ 8 ∷ 9 ∷ 11 ∷ []

@@ -3,8 +3,9 @@ use Prim.Native.Nat.{ℕ, _+_, _-_, _%_, _≤_}
 use mathlib.Core.List.{List, [], _∷_}
 use mathlib.Core.Path.{_≡_}
 use lib.ListN.{drop, length, take}
+use Rattle.fields.specs.Judged.{done}
 use Rattle.fields.specs.Field.{littleEndian}
-use Rattle.blocks.specs.Parts.{dataPart, metaPart}
+use Rattle.blocks.specs.Parts.{dataBounds, metaBounds, dataPart, metaPart}
 use Rattle.blocks.specs.declared.tell.Row.{Row}
 
 -- "zero bytes to a multiple of 4": so many after a part of that size
@@ -25,10 +26,12 @@ pub record Stands (s : List ℕ) (row : Row) : Type 0 where
   pub meta-size : littleEndian 4 s (row .offset + 8) ≡ row .«meta_size»
   pub ends : metaAt row + row .«meta_size» ≤ length s
 
--- the parts handed out at a row's offset are just the bytes that the row names
+-- the parts found and handed out at a row's offset are just the bytes that the row names
 pub record Parted (s : List ℕ) (row : Row) : Type 0 where
+  pub data-bounds : dataBounds s (row .offset) ≡ done (record { at = dataAt row; size = row .«data_size» })
   pub data-part : dataPart s (row .offset) ≡ take (row .«data_size») (drop (dataAt row) s)
   pub data-length : length (dataPart s (row .offset)) ≡ row .«data_size»
+  pub meta-bounds : metaBounds s (row .offset) ≡ done (record { at = metaAt row; size = row .«meta_size» })
   pub meta-part : metaPart s (row .offset) ≡ take (row .«meta_size») (drop (metaAt row) s)
   pub meta-length : length (metaPart s (row .offset)) ≡ row .«meta_size»
 
