@@ -1,17 +1,24 @@
 // Rows of a walk's table, and the declaration that a base mesh goes with.
+use blocks::parts::data_bounds;
 use blocks::parts::data_part;
 use blocks::tell::ROW_WIDTH;
+use fields::bounds::BoundsAnswer;
+use fields::field::bytes_at;
+use fields::limits::LARGEST_FILE;
 use fields::name::NameField;
 use fields::name::is_same;
 use fields::name::name_at;
 use fields::numbers::BAD_NAME;
+use fields::numbers::OUT_OF_ORDER;
+use fields::numbers::OUT_OF_RANGE;
+use fields::numbers::OVER_LIMIT;
 use fields::numbers::TRUNCATED;
 use mesh::declaration::mesh_name;
 ghost use mathlib.Core.Path.{_≡_};
 ghost use Prim.Native.Nat.{_<_};
 ghost use lib.Dec.{eqb};
 ghost use Rattle.blocks.specs.Told.{rowWidth};
-ghost use Rattle.rows.specs.Rows.{baseMesh, declaredBelow, declaredFor, declaredGiven, declares, hasName, wordIn};
+ghost use Rattle.rows.specs.Rows.{baseMesh, declaredBelow, declaredFor, declaredGiven, declaredOf, declares, hasName, wordIn};
 
 // Block types.
 const MESH_DECLARATION: u32 = 0xFFFFFF31;
@@ -83,14 +90,33 @@ fn declaration_before(file: &[u8], table: &[u32], row: usize, name: &[u8]) -> De
     Declared::Refused(BAD_NAME)
 }
 
-// The declaration of the base mesh in a row: the last before it that has its name. Its own name may be cut (1) or too long (8).
-pub fn declaration_of(file: &[u8], table: &[u32], row: usize) -> Declared
-    ensures { λ r. ⌜ declaredGiven r ≡ declaredFor (now (file .entry)) (now (table .entry)) row ⌝ }
+// The same for the base mesh with those data. Its own name may be cut (1) or too long (8).
+fn declaration_named(file: &[u8], table: &[u32], row: usize, continuation: &[u8]) -> Declared
+    ensures { λ r. ⌜ declaredGiven r ≡ declaredOf (now (file .entry)) (now (table .entry)) row (now (continuation .entry)) ⌝ }
 {
-    let continuation = data_part(file, offset_in(table, row));
     match name_at(continuation, 0) {
         NameField::Missing => Declared::Refused(TRUNCATED),
         NameField::Long => Declared::Refused(BAD_NAME),
         NameField::Size(_) => declaration_before(file, table, row, mesh_name(continuation)),
+    }
+}
+
+// The declaration of the base mesh in a row: the last before it that has its name. A row past the table is 10, one that is no base
+// mesh 11.
+pub fn declaration_of(file: &[u8], table: &[u32], row: usize) -> Declared
+    ensures { λ r. ⌜ declaredGiven r ≡ declaredFor (now (file .entry)) (now (table .entry)) row ⌝ }
+{
+    if LARGEST_FILE < file.len() {
+        return Declared::Refused(OVER_LIMIT);
+    }
+    if table.len() / ROW_WIDTH <= row {
+        return Declared::Refused(OUT_OF_RANGE);
+    }
+    if !is_base_mesh(table, row) {
+        return Declared::Refused(OUT_OF_ORDER);
+    }
+    match data_bounds(file, offset_in(table, row)) {
+        BoundsAnswer::Refused(e) => Declared::Refused(e.number),
+        BoundsAnswer::Found(b) => declaration_named(file, table, row, bytes_at(file, b.at, b.size)),
     }
 }
