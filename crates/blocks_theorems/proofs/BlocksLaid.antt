@@ -261,9 +261,9 @@ module _ (inside : List ℕ → Block → Outcome) (remaining : ℕ) (few : rema
           let b = j .0 in
           let row = then-done (tells (rowOf at (b .head) (levels - remaining) ∷ [])) _ u (j .2) in
           let contents = then-done (inside s b) _ u (row .1) in
-          let padded = then-done (ends (paddingsOf s (b .extent))) _ u (contents .1) in
-          one-laid s at count continued b (padded .0 .0) (contents .0 .0) bytes (j .1) (contents .0 .1) (padded .0 .1)
-          (later (b .extent .next) (isContinuation (b .kind)) (padded .1))
+          let withPadding = then-done (ends (paddingsOf s (b .extent))) _ u (contents .1) in
+          one-laid s at count continued b (withPadding .0 .0) (contents .0 .0) bytes (j .1) (contents .0 .1) (withPadding .0 .1)
+          (later (b .extent .next) (isContinuation (b .kind)) (withPadding .1))
 
       by : (t y : Bool) → eqb at (length s) ≡ t → eqb remaining levels ≡ y
           → pick (pick t y false) (tells []) (onJudged (blockAt s at remaining continued) (nextOf inside remaining count s at)) .ending ≡ done u

@@ -23,7 +23,7 @@ use Rattle.blocks.specs.declared.block.Block.{Block}
 use Rattle.blocks.specs.declared.tell.Row.{Row}
 use Rattle.fields_theorems.proofs.Seams.{past}
 use Rattle.blocks_theorems.specs.Layout.{Blocks, none, block, chain, blockBytes, blocksBytes, chainData, chainFields, modifierChain}
-use Rattle.blocks_theorems.specs.Layout.{countOf, rowAt, rowsFrom, OneOf, plainDeclarations, continuationTypes, Declarations, Continuations}
+use Rattle.blocks_theorems.specs.Layout.{countOf, rowAt, rowsLaid, OneOf, plainDeclarations, continuationTypes, Declarations, Continuations}
 use Rattle.blocks_theorems.proofs.PartsBack.{block-within, data-here, head-back, headOf, length-block, next-at, next-here, paddings-back, room-back, up-to}
 use Rattle.blocks_theorems.proofs.ChainBack.{fields-back}
 
@@ -237,8 +237,8 @@ walk-ends remaining at s continued e = rw (eq-eqb at (length s) e)
 pub declarations-walked : (bs : Blocks) (s rest : List ℕ) (at remaining depth n : ℕ) → Declarations remaining bs → depth + remaining ≡ levels
     → length s ≤ largestFile → drop at s ≡ blocksBytes bs ++ rest
     → walkOf remaining (countOf bs + n) s at false
-    ≡ told (rowsFrom at depth bs) (walkOf remaining n s (at + length (blocksBytes bs)) false)
-unfolding Declarations blocksBytes countOf rowsFrom isChain isContinuation
+    ≡ told (rowsLaid at depth bs) (walkOf remaining n s (at + length (blocksBytes bs)) false)
+unfolding Declarations blocksBytes countOf rowsLaid isChain isContinuation
 declarations-walked none s rest at remaining depth n d l small here = rw (zero-add n, add-zero at)
 declarations-walked (block type content meta more) s rest at remaining depth n d l small here =
     let part = blockBytes type content meta in
@@ -251,7 +251,7 @@ declarations-walked (block type content meta more) s rest at remaining depth n d
     let later = declarations-walked more s rest (at + length part) remaining depth n (d .1) l small
     (next-here s (blocksBytes more ++ rest) at type content meta stands) in
     follow remaining s part (blocksBytes more) rest at (countOf more) n false false (rowAt at type content meta depth ∷ [])
-    (rowsFrom (at + length part) depth more) (walkOf remaining n s (at + length (part ++ blocksBytes more)) false) (rw deep at first) (rw end at later)
+    (rowsLaid (at + length part) depth more) (walkOf remaining n s (at + length (part ++ blocksBytes more)) false) (rw deep at first) (rw end at later)
 declarations-walked (chain name type inside meta more) s rest at zero depth n d l small here = absurd d
 declarations-walked (chain name type inside meta more) s rest at (suc remaining) depth n d l small here =
     let content = chainData name type inside in
@@ -264,7 +264,7 @@ declarations-walked (chain name type inside meta more) s rest at (suc remaining)
     let size = inner-length s (blocksBytes more ++ rest) at name type inside meta stands small in
     let ends = inner-ends s (blocksBytes more ++ rest) at name type inside meta stands small in
     let room = whole s (blocksBytes more ++ rest) at name type inside meta stands small in
-    let rows = rowsFrom from (suc depth) inside in
+    let rows = rowsLaid from (suc depth) inside in
     let walked = declarations-walked inside bytes [] from remaining (suc depth) 0 (d .2) (omega arith) (omega arith)
     (inner-here s (blocksBytes more ++ rest) at name type inside meta stands small) in
     let within : walkOf remaining (countOf inside) bytes from false ≡ tells rows
@@ -274,7 +274,7 @@ declarations-walked (chain name type inside meta more) s rest at (suc remaining)
     let later = declarations-walked more s rest (at + length part) (suc remaining) depth n (d .3) l small
     (next-here s (blocksBytes more ++ rest) at modifierChain content meta stands) in
     follow (suc remaining) s part (blocksBytes more) rest at (countOf more) n false false (rowAt at modifierChain content meta depth ∷ rows)
-    (rowsFrom (at + length part) depth more) (walkOf (suc remaining) n s (at + length (part ++ blocksBytes more)) false) (rw deep at first) (rw end at later)
+    (rowsLaid (at + length part) depth more) (walkOf (suc remaining) n s (at + length (part ++ blocksBytes more)) false) (rw deep at first) (rw end at later)
 
 -- at the top the walk ends with the bytes, however many blocks there might have been
 file-ends : (n at : ℕ) (s : List ℕ) (continued : Bool) → at ≡ length s → walkOf levels n s at continued ≡ tells []
@@ -284,8 +284,8 @@ file-ends (suc n) at s continued e = rw (eq-eqb at (length s) e)
 
 -- Continuations are walked to their rows, after declarations or continuations, up to where the bytes end.
 pub continuations-walked : (bs : Blocks) (s : List ℕ) (at n : ℕ) (continued : Bool) → Continuations bs → length s ≤ largestFile → at ≤ length s
-    → drop at s ≡ blocksBytes bs → walkOf levels (countOf bs + n) s at continued ≡ tells (rowsFrom at 0 bs)
-unfolding Continuations blocksBytes countOf rowsFrom isChain isContinuation standingOf
+    → drop at s ≡ blocksBytes bs → walkOf levels (countOf bs + n) s at continued ≡ tells (rowsLaid at 0 bs)
+unfolding Continuations blocksBytes countOf rowsLaid isChain isContinuation standingOf
 continuations-walked none s at n continued d small a here = file-ends (0 + n) at s continued (omega (arith, length-drop at s, ap length here))
 continuations-walked (block type content meta more) s at n continued d small a here =
     let part = blockBytes type content meta in
@@ -294,6 +294,6 @@ continuations-walked (block type content meta more) s at n continued d small a h
     let later = continuations-walked more s (at + length part) n true (d .1) small (block-within s (blocksBytes more) at type content meta here)
     (next-here s (blocksBytes more) at type content meta here) in
     follow levels s part (blocksBytes more) [] at (countOf more) n continued true (rowAt at type content meta 0 ∷ [])
-    (rowsFrom (at + length part) 0 more) (tells []) first (later ∙ ap tells (sym (append-nil (rowsFrom (at + length part) 0 more))))
-    ∙ ap tells (append-nil (rowAt at type content meta 0 ∷ rowsFrom (at + length part) 0 more))
+    (rowsLaid (at + length part) 0 more) (tells []) first (later ∙ ap tells (sym (append-nil (rowsLaid (at + length part) 0 more))))
+    ∙ ap tells (append-nil (rowAt at type content meta 0 ∷ rowsLaid (at + length part) 0 more))
 continuations-walked (chain name type inside meta more) s at n continued d small a here = absurd d

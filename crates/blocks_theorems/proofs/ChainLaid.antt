@@ -16,9 +16,9 @@ use Rattle.blocks.specs.Padding.{alignedTo, zerosOf}
 use Rattle.blocks.specs.Chain.{countAt, fieldsAfterName, chainAt}
 use Rattle.blocks.specs.declared.chain.Run.{Run}
 use Rattle.blocks.proofs.Fits.{chosen}
-use Rattle.fields_theorems.specs.Encoding.{bytesOf, nameBytes, wordBytes}
+use Rattle.fields_theorems.specs.Encoding.{numberBytes, nameBytes, wordBytes}
 use Rattle.blocks_theorems.specs.RowParts.{padding}
-use Rattle.blocks_theorems.specs.Layout.{Bytes, chainFields, padded}
+use Rattle.blocks_theorems.specs.Layout.{Bytes, chainFields, withPadding}
 use Rattle.blocks_theorems.proofs.ChainBack.{length-named}
 use Rattle.blocks_theorems.proofs.PartsLaid.{both-laid, field-laid, padding-laid, part-laid, part-length}
 
@@ -44,19 +44,19 @@ name-laid s at size b e =
     let name = take size (drop (at + 2) s) in
     let end : at + 2 + size ≡ at + (size + 2) = omega arith in
     let sized = part-length s (at + 2) size (omega (arith, within .0)) in
-    let first : drop at s ≡ bytesOf 2 (length name) ++ drop (at + 2) s = rw (sized, ← same) (field-laid 2 s at (field .0) b (field .1) .0) in
-    both-laid (drop at s) (bytesOf 2 (length name)) name (drop (at + 2) s) (drop (at + (size + 2)) s) first (rw end at (part-laid s (at + 2) size))
+    let first : drop at s ≡ numberBytes 2 (length name) ++ drop (at + 2) s = rw (sized, ← same) (field-laid 2 s at (field .0) b (field .1) .0) in
+    both-laid (drop at s) (numberBytes 2 (length name)) name (drop (at + 2) s) (drop (at + (size + 2)) s) first (rw end at (part-laid s (at + 2) size))
 
 -- padding and count
 count-laid : (s : List ℕ) (from to k : ℕ) (run : Run) → Bytes s → from + k ≡ to → countAt s from to ≡ done run
-    → drop from s ≡ (replicate k 0 ++ bytesOf 4 (run .count)) ++ drop (run .at) s
+    → drop from s ≡ (replicate k 0 ++ numberBytes 4 (run .count)) ++ drop (run .at) s
 unfolding countAt
 count-laid s from to k run b h e =
     let room = passed (ltb (length s) to) truncated from _ run e in
     let zeros = value-before (zerosOf (to - from) s from) _ run (room .1) in
     let count = value-before (fieldAt 4 s to) _ run (zeros .2) in
     rw (← same-done (count .2))
-    (both-laid (drop from s) (replicate k 0) (bytesOf 4 (count .0)) (drop to s) (drop (to + 4) s)
+    (both-laid (drop from s) (replicate k 0) (numberBytes 4 (count .0)) (drop to s) (drop (to + 4) s)
     (padding-laid s from to k (zeros .0) (ltb-false (length s) to (room .0)) h (zeros .1)) (field-laid 4 s to (count .0) b (count .1) .0))
 
 -- type, attributes, padding and count, after a name of that size
@@ -64,7 +64,7 @@ record Rest (s : List ℕ) (at size : ℕ) (run : Run) : Type 0 where
   type : ℕ
   low : type ≤ 2
   here : drop (at + (size + 2)) s
-      ≡ ((bytesOf 4 type ++ bytesOf 4 0) ++ (replicate (padding (size + 10)) 0 ++ bytesOf 4 (run .count))) ++ drop (run .at) s
+      ≡ ((numberBytes 4 type ++ numberBytes 4 0) ++ (replicate (padding (size + 10)) 0 ++ numberBytes 4 (run .count))) ++ drop (run .at) s
 
 fields-laid : (s : List ℕ) (at size : ℕ) (run : Run) → Bytes s → fieldsAfterName s at size ≡ done run → Rest s at size run
 unfolding fieldsAfterName
@@ -78,17 +78,17 @@ fields-laid s at size run b e =
     let none : attributes .0 ≡ 0 = eqb-true (attributes .0) 0 (zero .0) in
     let e₂ : next + 4 + 4 ≡ next + 8 = omega arith in
     let one = field-laid 4 s next (kind .0) b (kind .1) .0 in
-    let two : drop (next + 4) s ≡ bytesOf 4 0 ++ drop (next + 8) s = rw (none, e₂) at (field-laid 4 s (next + 4) (attributes .0) b (attributes .1) .0) in
+    let two : drop (next + 4) s ≡ numberBytes 4 0 ++ drop (next + 8) s = rw (none, e₂) at (field-laid 4 s (next + 4) (attributes .0) b (attributes .1) .0) in
     let rest = count-laid s (next + 8) to (padding (size + 10)) run b (omega arith) (zero .1) in
     record {
       type = kind .0;
       low = ltb-false 2 (kind .0) (type .0);
-      here = both-laid (drop next s) (bytesOf 4 (kind .0) ++ bytesOf 4 0) _ (drop (next + 8) s) (drop (run .at) s)
-          (both-laid (drop next s) (bytesOf 4 (kind .0)) (bytesOf 4 0) (drop (next + 4) s) (drop (next + 8) s) one two) rest;
+      here = both-laid (drop next s) (numberBytes 4 (kind .0) ++ numberBytes 4 0) _ (drop (next + 8) s) (drop (run .at) s)
+          (both-laid (drop next s) (numberBytes 4 (kind .0)) (numberBytes 4 0) (drop (next + 4) s) (drop (next + 8) s) one two) rest;
     }
 
 pub chain-laid : (s : List ℕ) (at : ℕ) (run : Run) → Bytes s → chainAt s at ≡ done run → ChainLaid s at run
-unfolding chainAt chainFields padded wordBytes
+unfolding chainAt chainFields withPadding wordBytes
 chain-laid s at run b e =
     let named = value-before (nameAt s at) _ run e in
     let size = named .0 in
@@ -96,7 +96,7 @@ chain-laid s at run b e =
     let within = name-within s at size (named .1) in
     let sized : length name ≡ size = part-length s (at + 2) size (omega (arith, within .0)) in
     let rest = fields-laid s at size run b (named .2) in
-    let after = (bytesOf 4 (rest .type) ++ bytesOf 4 0) ++ (replicate (padding (size + 10)) 0 ++ bytesOf 4 (run .count)) in
+    let after = (numberBytes 4 (rest .type) ++ numberBytes 4 0) ++ (replicate (padding (size + 10)) 0 ++ numberBytes 4 (run .count)) in
     let whole = both-laid (drop at s) (nameBytes name) after (drop (at + (size + 2)) s) (drop (run .at) s) (name-laid s at size b (named .1)) (rest .here) in
     record {
       name = name;

@@ -23,10 +23,10 @@ use Rattle.blocks.specs.declared.head.Head.{Head}
 use Rattle.blocks.specs.declared.header.FileHeader.{FileHeader}
 use Rattle.blocks.specs.declared.header.First.{First}
 use Rattle.blocks.proofs.Fits.{chosen, room-within}
-use Rattle.fields_theorems.specs.Encoding.{bytesOf}
-use Rattle.fields_theorems.proofs.FieldsBack.{length-bytesOf}
-use Rattle.blocks_theorems.specs.Layout.{Bytes, File, Lawful, blockBytes, blocksBytes, fileBytes, fileSize, headerBytes, padded, rowsOf}
-use Rattle.blocks_theorems.proofs.PartsBack.{length-block, length-padded}
+use Rattle.fields_theorems.specs.Encoding.{numberBytes}
+use Rattle.fields_theorems.proofs.FieldsBack.{length-numberBytes}
+use Rattle.blocks_theorems.specs.Layout.{Bytes, File, Lawful, blockBytes, blocksBytes, fileBytes, fileSize, headerBytes, withPadding, rowsOf}
+use Rattle.blocks_theorems.proofs.PartsBack.{length-block, length-withPadding}
 use Rattle.blocks_theorems.proofs.FileWalked.{tree-walked}
 use Rattle.blocks_theorems.proofs.PartsLaid.{block-laid, both-laid, dataIn, field-laid, metaIn}
 use Rattle.blocks_theorems.proofs.BlocksLaid.{Laid, judged-done, listed, then-done, walk-laid}
@@ -88,7 +88,7 @@ record Headed (s : List ℕ) (first : First) : Type 0 where
   size : head .«data_size» ≡ headerData
   small : length s ≤ largestFile
   room : extentOf 0 head .next ≤ length s
-  padded : paddingsOf s (extentOf 0 head) ≡ done tt
+  withPadding : paddingsOf s (extentOf 0 head) ≡ done tt
   next : extentOf 0 head .next ≡ first .next
 
 headed : (s : List ℕ) (first : First) → firstOf s ≡ done first → Headed s first
@@ -117,15 +117,15 @@ headed s first e =
       size = eqb-true _ headerData (size .0);
       small = ltb-false largestFile (length s) (small .0);
       room = room-within (length s) 0 extent (room .0) (room .1) .2;
-      padded = zeros .1;
+      withPadding = zeros .1;
       next = ap (λ (f : First). f .next) (same-done (zeros .2));
     }
 
 -- ---- the file that was walked
 
 -- a field, and what follows it
-field-then : (k : ℕ) (s q more : List ℕ) (at v : ℕ) → Bytes s → fieldAt k s at ≡ done v → drop (at + k) s ≡ q ++ more → drop at s ≡ (bytesOf k v ++ q) ++ more
-field-then k s q more at v bytes e f = both-laid (drop at s) (bytesOf k v) q (drop (at + k) s) more (field-laid k s at v bytes e .0) f
+field-then : (k : ℕ) (s q more : List ℕ) (at v : ℕ) → Bytes s → fieldAt k s at ≡ done v → drop (at + k) s ≡ q ++ more → drop at s ≡ (numberBytes k v ++ q) ++ more
+field-then k s q more at v bytes e f = both-laid (drop at s) (numberBytes k v) q (drop (at + k) s) more (field-laid k s at v bytes e .0) f
 
 module _ (s : List ℕ) (first : First) (bytes : Bytes s) (h : Headed s first) (l : Laid levels (length s) s (first .next) false) where
   -- the file whose bytes these are
@@ -142,31 +142,31 @@ module _ (s : List ℕ) (first : First) (bytes : Bytes s) (h : Headed s first) (
 
   -- its header's data, from the back
   abbrev size-on : List ℕ
-  size-on = bytesOf 8 (length s) ++ bytesOf 4 (h .encoding)
+  size-on = numberBytes 8 (length s) ++ numberBytes 4 (h .encoding)
 
   abbrev declared-on : List ℕ
-  declared-on = bytesOf 4 (h .declared) ++ size-on
+  declared-on = numberBytes 4 (h .declared) ++ size-on
 
   abbrev profile-on : List ℕ
-  profile-on = bytesOf 4 (h .profile) ++ declared-on
+  profile-on = numberBytes 4 (h .profile) ++ declared-on
 
   abbrev minor-on : List ℕ
-  minor-on = bytesOf 2 (h .minor) ++ profile-on
+  minor-on = numberBytes 2 (h .minor) ++ profile-on
 
   abbrev header : List ℕ
-  header = bytesOf 2 0 ++ minor-on
+  header = numberBytes 2 0 ++ minor-on
 
   header-here : drop 12 s ≡ header ++ drop 36 s
   header-here =
       let after = drop 36 s in
-      let five = field-then 8 s (bytesOf 4 (h .encoding)) after 24 (length s) bytes (h .fields .size-read) (field-laid 4 s 32 (h .encoding) bytes (h .fields .encoding-read) .0) in
+      let five = field-then 8 s (numberBytes 4 (h .encoding)) after 24 (length s) bytes (h .fields .size-read) (field-laid 4 s 32 (h .encoding) bytes (h .fields .encoding-read) .0) in
       let four = field-then 4 s size-on after 20 (h .declared) bytes (h .fields .declared-read) five in
       let three = field-then 4 s declared-on after 16 (h .profile) bytes (h .version .profile-read) four in
       let two = field-then 2 s profile-on after 14 (h .minor) bytes (h .version .minor-read) three in
       field-then 2 s minor-on after 12 0 bytes (h .version .major-read) two
 
   header-length : length header ≡ 24
-  header-length = simp (length-append, length-bytesOf)
+  header-length = simp (length-append, length-numberBytes)
 
   data-here : dataIn s 0 (h .head) ≡ header
   data-here = rw (h .size) (ap (λ (x : List ℕ). take 24 x) header-here ∙ take-at header (drop 36 s) 24 header-length)
@@ -176,7 +176,7 @@ module _ (s : List ℕ) (first : First) (bytes : Bytes s) (h : Headed s first) (
 
   whole : s ≡ blockBytes 0x00443355 header (metaIn s 0 (h .head)) ++ top
   whole =
-      let laid = block-laid s 0 (h .head) tt bytes (h .head-read) (h .room) (h .padded) in
+      let laid = block-laid s 0 (h .head) tt bytes (h .head-read) (h .room) (h .withPadding) in
       laid .here ∙ rw (h .next, l .here, data-here, h .type)
 
   sized : fileSize fileIn ≡ length s
@@ -190,7 +190,7 @@ module _ (s : List ℕ) (first : First) (bytes : Bytes s) (h : Headed s first) (
         length-append (blocksBytes (l .declared)) (blocksBytes (l .continuing)),
         length-block 0x00443355 header meta,
         header-length,
-        length-padded meta,
+        length-withPadding meta,
       )
 
   laid-out : s ≡ fileBytes fileIn

@@ -108,10 +108,10 @@ module _ (inside : List ℕ → Block → Outcome) (remaining : ℕ) (within : I
       (block-refusing s at remaining continued len h (omega arith)) λ b e.
       let f = block-fits s at remaining continued b e in
       let meta-within : b .extent .«meta_at» ≤ len = omega (arith, f .meta-data, f .meta-padding, f .ends) in
-      let padded = paddings-refusing blockNumbers s (b .extent) refl (f .data-padding) meta-within (f .meta-padding) (f .ends) in
+      let withPadding = paddings-refusing blockNumbers s (b .extent) refl (f .data-padding) meta-within (f .meta-padding) (f .ends) in
       and-then blockNumbers len (tells (rowOf at (b .head) (levels - remaining) ∷ [])) _ tt
       (and-then blockNumbers len (inside s b) _ (within s at b f)
-      (and-then blockNumbers len (ends (paddingsOf s (b .extent))) _ padded
+      (and-then blockNumbers len (ends (paddingsOf s (b .extent))) _ withPadding
       (blocks-refusing count s (b .extent .next) (isContinuation (b .kind)) (f .ends)))) in
       by (fileEnds at len remaining) (onJudged (blockAt s at remaining continued) (nextOf inside remaining count s at)) found
     where

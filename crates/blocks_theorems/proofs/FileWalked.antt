@@ -19,12 +19,12 @@ use Rattle.blocks.specs.File.{afterFirst, fileOf}
 use Rattle.blocks.specs.declared.head.Head.{Head}
 use Rattle.blocks.specs.declared.header.FileHeader.{FileHeader}
 use Rattle.blocks.specs.declared.header.First.{First}
-use Rattle.fields_theorems.specs.Encoding.{bytesOf}
+use Rattle.fields_theorems.specs.Encoding.{numberBytes}
 use Rattle.fields_theorems.proofs.Seams.{past}
-use Rattle.fields_theorems.proofs.FieldsBack.{field-back, length-bytesOf}
+use Rattle.fields_theorems.proofs.FieldsBack.{field-back, length-numberBytes}
 use Rattle.blocks_theorems.specs.RowParts.{padding}
-use Rattle.blocks_theorems.specs.Layout.{File, Lawful, OneOf, blockBytes, blocksBytes, countOf, fileBytes, fileSize, headerBytes, headerSize, padded, rowsFrom, rowsOf}
-use Rattle.blocks_theorems.proofs.PartsBack.{data-here, head-back, headOf, length-block, length-padded, next-at, paddings-back, room-back}
+use Rattle.blocks_theorems.specs.Layout.{File, Lawful, OneOf, blockBytes, blocksBytes, countOf, fileBytes, fileSize, headerBytes, headerSize, withPadding, rowsLaid, rowsOf}
+use Rattle.blocks_theorems.proofs.PartsBack.{data-here, head-back, headOf, length-block, length-withPadding, next-at, paddings-back, room-back}
 use Rattle.blocks_theorems.proofs.BlocksWalked.{continuations-walked, declarations-walked, few-blocks, told}
 
 -- a profile without a bit other than 0x2 and 0x8
@@ -41,10 +41,10 @@ module _ (f : File) where
 
   length-header : length (headerBytes f) ≡ 24
   unfolding headerBytes
-  length-header = simp (length-append, length-bytesOf)
+  length-header = simp (length-append, length-numberBytes)
 
   header-ends : length (blockBytes 0x00443355 (headerBytes f) (f .meta)) ≡ headerSize f
-  header-ends = omega (arith, length-block 0x00443355 (headerBytes f) (f .meta), length-header, length-padded (f .meta))
+  header-ends = omega (arith, length-block 0x00443355 (headerBytes f) (f .meta), length-header, length-withPadding (f .meta))
 
   -- the file size that a header states is the length of its file
   pub file-sized : length (fileBytes f) ≡ fileSize f
@@ -64,41 +64,41 @@ module _ (f : File) where
   -- ---- the header's fields
 
   abbrev after : List ℕ
-  after = replicate (padding (length (headerBytes f))) 0 ++ (padded (f .meta) ++ top)
+  after = replicate (padding (length (headerBytes f))) 0 ++ (withPadding (f .meta) ++ top)
 
   abbrev encoding-on : List ℕ
-  encoding-on = bytesOf 4 (f .encoding) ++ after
+  encoding-on = numberBytes 4 (f .encoding) ++ after
 
   abbrev size-on : List ℕ
-  size-on = bytesOf 8 (fileSize f) ++ encoding-on
+  size-on = numberBytes 8 (fileSize f) ++ encoding-on
 
   abbrev declared-on : List ℕ
-  declared-on = bytesOf 4 (f .declaration-size) ++ size-on
+  declared-on = numberBytes 4 (f .declaration-size) ++ size-on
 
   abbrev profile-on : List ℕ
-  profile-on = bytesOf 4 (f .profile) ++ declared-on
+  profile-on = numberBytes 4 (f .profile) ++ declared-on
 
   abbrev minor-on : List ℕ
-  minor-on = bytesOf 2 (f .minor) ++ profile-on
+  minor-on = numberBytes 2 (f .minor) ++ profile-on
 
-  major-here : drop 12 (fileBytes f) ≡ bytesOf 2 0 ++ minor-on
+  major-here : drop 12 (fileBytes f) ≡ numberBytes 2 0 ++ minor-on
   unfolding headerBytes
   major-here = data-here (fileBytes f) top 0 0x00443355 (headerBytes f) (f .meta) header-here ∙ simp append-assoc
 
   minor-here : drop 14 (fileBytes f) ≡ minor-on
-  minor-here = past (fileBytes f) (bytesOf 2 0) minor-on 12 major-here 2 (length-bytesOf 2 0)
+  minor-here = past (fileBytes f) (numberBytes 2 0) minor-on 12 major-here 2 (length-numberBytes 2 0)
 
   profile-here : drop 16 (fileBytes f) ≡ profile-on
-  profile-here = past (fileBytes f) (bytesOf 2 (f .minor)) profile-on 14 minor-here 2 (length-bytesOf 2 (f .minor))
+  profile-here = past (fileBytes f) (numberBytes 2 (f .minor)) profile-on 14 minor-here 2 (length-numberBytes 2 (f .minor))
 
   declared-here : drop 20 (fileBytes f) ≡ declared-on
-  declared-here = past (fileBytes f) (bytesOf 4 (f .profile)) declared-on 16 profile-here 4 (length-bytesOf 4 (f .profile))
+  declared-here = past (fileBytes f) (numberBytes 4 (f .profile)) declared-on 16 profile-here 4 (length-numberBytes 4 (f .profile))
 
   size-here : drop 24 (fileBytes f) ≡ size-on
-  size-here = past (fileBytes f) (bytesOf 4 (f .declaration-size)) size-on 20 declared-here 4 (length-bytesOf 4 (f .declaration-size))
+  size-here = past (fileBytes f) (numberBytes 4 (f .declaration-size)) size-on 20 declared-here 4 (length-numberBytes 4 (f .declaration-size))
 
   encoding-here : drop 32 (fileBytes f) ≡ encoding-on
-  encoding-here = past (fileBytes f) (bytesOf 8 (fileSize f)) encoding-on 24 size-here 8 (length-bytesOf 8 (fileSize f))
+  encoding-here = past (fileBytes f) (numberBytes 8 (fileSize f)) encoding-on 24 size-here 8 (length-numberBytes 8 (fileSize f))
 
 -- ---- the first block
 
@@ -187,7 +187,7 @@ module _ (f : File) (h : Lawful f) where
       (length (blocksBytes (f .declarations))) refl
 
   top-walked : walkOf levels (length (fileBytes f)) (fileBytes f) declared-at false
-      ≡ tells (rowsFrom declared-at 0 (f .declarations) ++ rowsFrom continued-at 0 (f .continuations))
+      ≡ tells (rowsLaid declared-at 0 (f .declarations) ++ rowsLaid continued-at 0 (f .continuations))
   top-walked =
       let s = fileBytes f in
       let d = f .declarations in
@@ -197,7 +197,7 @@ module _ (f : File) (h : Lawful f) where
       let first = declarations-walked d s (blocksBytes c) declared-at levels 0 (countOf c + n) (h .declarations) refl small declarations-here in
       let later = continuations-walked c s continued-at n false (h .continuations) small (omega (arith, file-sized f)) continuations-here in
       ap (λ (k : ℕ). walkOf levels k s declared-at false) count ∙ first
-      ∙ ap (λ (o : Outcome). told (rowsFrom declared-at 0 d) o) later
+      ∙ ap (λ (o : Outcome). told (rowsLaid declared-at 0 d) o) later
 
 -- A file laid out by the rules is walked to the end, and the rows told are just those of its blocks.
 pub tree-walked : (f : File) → Lawful f → fileOf (fileBytes f) ≡ tells (rowsOf f)

@@ -11,17 +11,17 @@ use Rattle.fields.specs.Limits.{largestFile}
 use Rattle.blocks.specs.Padding.{fine, zerosOf}
 use Rattle.blocks.specs.Head.{headAt, extentOf, roomOf, paddingsOf}
 use Rattle.blocks.specs.declared.head.Head.{Head}
-use Rattle.fields_theorems.specs.Encoding.{bytesOf, wordBytes}
+use Rattle.fields_theorems.specs.Encoding.{numberBytes, wordBytes}
 use Rattle.fields_theorems.proofs.Seams.{first-at, past, second-at, within}
 use Rattle.fields_theorems.proofs.FieldsBack.{after-words, field-back, length-wordBytes}
 use Rattle.blocks_theorems.specs.RowParts.{padding}
-use Rattle.blocks_theorems.specs.Layout.{padded, blockBytes}
+use Rattle.blocks_theorems.specs.Layout.{withPadding, blockBytes}
 
 -- ---- parts
 
-pub length-padded : (part : List ℕ) → length (padded part) ≡ length part + padding (length part)
-unfolding padded
-length-padded part = omega (arith, length-append part (replicate (padding (length part)) 0), length-replicate {A = ℕ} (padding (length part)) 0)
+pub length-withPadding : (part : List ℕ) → length (withPadding part) ≡ length part + padding (length part)
+unfolding withPadding
+length-withPadding part = omega (arith, length-append part (replicate (padding (length part)) 0), length-replicate {A = ℕ} (padding (length part)) 0)
 
 pub length-block : (type : ℕ) (content meta : List ℕ)
     → length (blockBytes type content meta) ≡ 12 + (length content + padding (length content)) + (length meta + padding (length meta))
@@ -30,11 +30,11 @@ length-block type content meta =
     let words = type ∷ length content ∷ length meta ∷ [] in
     omega (
       arith,
-      length-append (wordBytes words) (padded content ++ padded meta),
+      length-append (wordBytes words) (withPadding content ++ withPadding meta),
       length-wordBytes words,
-      length-append (padded content) (padded meta),
-      length-padded content,
-      length-padded meta,
+      length-append (withPadding content) (withPadding meta),
+      length-withPadding content,
+      length-withPadding meta,
     )
 
 -- zero bytes are passed
@@ -58,21 +58,21 @@ headOf type content meta = record { «block_type» = type; «data_size» = lengt
 
 module _ (s rest : List ℕ) (at type : ℕ) (content meta : List ℕ) (here : drop at s ≡ blockBytes type content meta ++ rest) where
   -- where its parts stand
-  head-here : drop at s ≡ wordBytes (type ∷ length content ∷ length meta ∷ []) ++ (padded content ++ (padded meta ++ rest))
+  head-here : drop at s ≡ wordBytes (type ∷ length content ∷ length meta ∷ []) ++ (withPadding content ++ (withPadding meta ++ rest))
   unfolding blockBytes
   head-here = here ∙ simp append-assoc
 
-  pub data-here : drop (at + 12) s ≡ content ++ (replicate (padding (length content)) 0 ++ (padded meta ++ rest))
-  unfolding padded
-  data-here = after-words s (type ∷ length content ∷ length meta ∷ []) (padded content ++ (padded meta ++ rest)) at 12 head-here refl ∙ simp append-assoc
+  pub data-here : drop (at + 12) s ≡ content ++ (replicate (padding (length content)) 0 ++ (withPadding meta ++ rest))
+  unfolding withPadding
+  data-here = after-words s (type ∷ length content ∷ length meta ∷ []) (withPadding content ++ (withPadding meta ++ rest)) at 12 head-here refl ∙ simp append-assoc
 
-  data-padding-here : drop (at + 12 + length content) s ≡ replicate (padding (length content)) 0 ++ (padded meta ++ rest)
-  data-padding-here = past s content (replicate (padding (length content)) 0 ++ (padded meta ++ rest)) (at + 12) data-here (length content) refl
+  data-padding-here : drop (at + 12 + length content) s ≡ replicate (padding (length content)) 0 ++ (withPadding meta ++ rest)
+  data-padding-here = past s content (replicate (padding (length content)) 0 ++ (withPadding meta ++ rest)) (at + 12) data-here (length content) refl
 
   pub meta-here : drop (at + 12 + length content + padding (length content)) s ≡ meta ++ (replicate (padding (length meta)) 0 ++ rest)
-  unfolding padded
+  unfolding withPadding
   meta-here =
-      past s (replicate (padding (length content)) 0) (padded meta ++ rest) (at + 12 + length content) data-padding-here (padding (length content))
+      past s (replicate (padding (length content)) 0) (withPadding meta ++ rest) (at + 12 + length content) data-padding-here (padding (length content))
       (length-replicate (padding (length content)) 0) ∙ simp append-assoc
 
   meta-padding-here : drop (at + 12 + length content + padding (length content) + length meta) s ≡ replicate (padding (length meta)) 0 ++ rest
@@ -91,15 +91,15 @@ module _ (s rest : List ℕ) (at type : ℕ) (content meta : List ℕ) (here : d
   head-back t small =
       let room = block-within in
       let size = length-block type content meta in
-      let after = padded content ++ (padded meta ++ rest) in
-      let first : drop at s ≡ bytesOf 4 type ++ (wordBytes (length content ∷ length meta ∷ []) ++ after)
-      = head-here ∙ append-assoc (bytesOf 4 type) (wordBytes (length content ∷ length meta ∷ [])) after in
-      let second : drop (at + 4) s ≡ bytesOf 4 (length content) ++ (wordBytes (length meta ∷ []) ++ after)
+      let after = withPadding content ++ (withPadding meta ++ rest) in
+      let first : drop at s ≡ numberBytes 4 type ++ (wordBytes (length content ∷ length meta ∷ []) ++ after)
+      = head-here ∙ append-assoc (numberBytes 4 type) (wordBytes (length content ∷ length meta ∷ [])) after in
+      let second : drop (at + 4) s ≡ numberBytes 4 (length content) ++ (wordBytes (length meta ∷ []) ++ after)
       = after-words s (type ∷ []) (wordBytes (length content ∷ length meta ∷ []) ++ after) at 4 (head-here ∙ simp append-assoc) refl
-      ∙ append-assoc (bytesOf 4 (length content)) (wordBytes (length meta ∷ [])) after in
-      let third : drop (at + 8) s ≡ bytesOf 4 (length meta) ++ after
+      ∙ append-assoc (numberBytes 4 (length content)) (wordBytes (length meta ∷ [])) after in
+      let third : drop (at + 8) s ≡ numberBytes 4 (length meta) ++ after
       = after-words s (type ∷ length content ∷ []) (wordBytes (length meta ∷ []) ++ after) at 8 (head-here ∙ simp append-assoc) refl
-      ∙ append-assoc (bytesOf 4 (length meta)) [] after in
+      ∙ append-assoc (numberBytes 4 (length meta)) [] after in
       rw (
         field-back 4 s _ at type (omega arith) (omega arith) first,
         field-back 4 s _ (at + 4) (length content) (omega arith) (omega arith) second,
@@ -129,7 +129,7 @@ module _ (s rest : List ℕ) (at type : ℕ) (content meta : List ℕ) (here : d
       let from : e .«meta_end» ≡ at + 12 + length content + padding (length content) + length meta = omega arith in
       rw (
         first,
-        zeros-back (padding (length content)) s (padded meta ++ rest) (at + 12 + length content) data-padding-here,
+        zeros-back (padding (length content)) s (withPadding meta ++ rest) (at + 12 + length content) data-padding-here,
         second,
         from,
       ) (zeros-back (padding (length meta)) s rest (at + 12 + length content + padding (length content) + length meta) meta-padding-here)

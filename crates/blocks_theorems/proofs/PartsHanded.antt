@@ -17,9 +17,9 @@ use Rattle.blocks.proofs.Within.{name-next}
 use Rattle.fields_theorems.proofs.Seams.{past}
 use Rattle.fields_theorems.proofs.FieldsBack.{name-bounds-back, name-part}
 use Rattle.blocks_theorems.specs.RowParts.{padding}
-use Rattle.blocks_theorems.specs.Layout.{Blocks, none, block, chain, blockBytes, blocksBytes, chainData, chainFields, modifierChain, countOf, padded}
+use Rattle.blocks_theorems.specs.Layout.{Blocks, none, block, chain, blockBytes, blocksBytes, chainData, chainFields, modifierChain, countOf, withPadding}
 use Rattle.blocks_theorems.specs.Layout.{Continuations, Declarations, File, Lawful, fileBytes, headerBytes}
-use Rattle.blocks_theorems.specs.Handed.{AllHanded, Handed, HandedAt}
+use Rattle.blocks_theorems.specs.Handed.{AllHanded, HandedOut, HandedAt}
 use Rattle.blocks_theorems.proofs.Bounded.{data-bounded, meta-bounded}
 use Rattle.blocks_theorems.proofs.PartsBack.{block-within, data-here, head-back, headOf, length-block, meta-here, next-here}
 use Rattle.blocks_theorems.proofs.ChainBack.{name-here}
@@ -79,8 +79,8 @@ module _ (s rest : List ℕ) (at : ℕ) (name : List ℕ) (type : ℕ) (inside :
       rw name-bounded (rw (name-bounds-back s name _ (at + 12) n stands) at (name-part s name _ (at + 12) n stands))
 
 declarations-handed : (bs : Blocks) (s rest : List ℕ) (at remaining : ℕ) → Declarations remaining bs → length s ≤ largestFile
-    → drop at s ≡ blocksBytes bs ++ rest → Handed s at bs
-unfolding Declarations Handed blocksBytes
+    → drop at s ≡ blocksBytes bs ++ rest → HandedOut s at bs
+unfolding Declarations HandedOut blocksBytes
 declarations-handed none s rest at remaining d few here = tt
 declarations-handed (block type content meta more) s rest at remaining d few here =
     let stands = first-here remaining s (blockBytes type content meta) (blocksBytes more) rest at here in (
@@ -93,7 +93,7 @@ declarations-handed (chain name type inside meta more) s rest at (suc remaining)
     let content = chainData name type inside in
     let fields = chainFields name type (countOf inside) in
     let stands = first-here (suc remaining) s (blockBytes modifierChain content meta) (blocksBytes more) rest at here in
-    let after = replicate (padding (length content)) 0 ++ (padded meta ++ (blocksBytes more ++ rest)) in
+    let after = replicate (padding (length content)) 0 ++ (withPadding meta ++ (blocksBytes more ++ rest)) in
     let held : drop (at + 12) s ≡ fields ++ (blocksBytes inside ++ after)
     = data-here s (blocksBytes more ++ rest) at modifierChain content meta stands ∙ append-assoc fields (blocksBytes inside) after in (
       block-handed s (blocksBytes more ++ rest) at modifierChain content meta stands few (omega arith),
@@ -105,8 +105,8 @@ declarations-handed (chain name type inside meta more) s rest at (suc remaining)
           (next-here s (blocksBytes more ++ rest) at modifierChain content meta stands),
     )
 
-continuations-handed : (bs : Blocks) (s : List ℕ) (at : ℕ) → Continuations bs → length s ≤ largestFile → drop at s ≡ blocksBytes bs → Handed s at bs
-unfolding Continuations Handed blocksBytes
+continuations-handed : (bs : Blocks) (s : List ℕ) (at : ℕ) → Continuations bs → length s ≤ largestFile → drop at s ≡ blocksBytes bs → HandedOut s at bs
+unfolding Continuations HandedOut blocksBytes
 continuations-handed none s at d few here = tt
 continuations-handed (block type content meta more) s at d few here = (
   block-handed s (blocksBytes more) at type content meta here few (continuation-small type (d .0)),

@@ -16,9 +16,9 @@ use Rattle.blocks.specs.Padding.{zerosOf}
 use Rattle.blocks.specs.Head.{headAt, extentOf, paddingsOf}
 use Rattle.blocks.specs.declared.head.Head.{Head}
 use Rattle.blocks.proofs.Fits.{chosen}
-use Rattle.fields_theorems.specs.Encoding.{bytesOf, wordBytes}
+use Rattle.fields_theorems.specs.Encoding.{numberBytes, wordBytes}
 use Rattle.blocks_theorems.specs.RowParts.{padding}
-use Rattle.blocks_theorems.specs.Layout.{Bytes, padded, blockBytes}
+use Rattle.blocks_theorems.specs.Layout.{Bytes, withPadding, blockBytes}
 
 -- so many from an offset, and those after them
 pub part-laid : (s : List ℕ) (at n : ℕ) → drop at s ≡ take n (drop at s) ++ drop (at + n) s
@@ -29,8 +29,8 @@ part-length s at n h = length-take-le n (drop at s) (omega (arith, length-drop a
 
 -- a number is its bytes, and fits them
 pub number-laid : (k : ℕ) (s : List ℕ) (at : ℕ) → Bytes s → at + k ≤ length s
-    → (drop at s ≡ bytesOf k (littleEndian k s at) ++ drop (at + k) s) × (littleEndian k s at < 256 ^ k)
-unfolding littleEndian bytesOf
+    → (drop at s ≡ numberBytes k (littleEndian k s at) ++ drop (at + k) s) × (littleEndian k s at < 256 ^ k)
+unfolding littleEndian numberBytes
 number-laid zero s at b h = (rw (add-zero at), omega arith)
 number-laid (suc k) s at b h =
     let low = b at in
@@ -44,7 +44,7 @@ number-laid (suc k) s at b h =
     )
 
 -- so is a field
-pub field-laid : (k : ℕ) (s : List ℕ) (at v : ℕ) → Bytes s → fieldAt k s at ≡ done v → (drop at s ≡ bytesOf k v ++ drop (at + k) s) × (v < 256 ^ k)
+pub field-laid : (k : ℕ) (s : List ℕ) (at v : ℕ) → Bytes s → fieldAt k s at ≡ done v → (drop at s ≡ numberBytes k v ++ drop (at + k) s) × (v < 256 ^ k)
 unfolding fieldAt
 field-laid k s at v b e =
     let q = passed (ltb (length s) (at + k)) truncated at _ v e in
@@ -99,13 +99,13 @@ head-laid s at head b e =
     let one = field-laid 4 s at (first .0) b (first .1) .0 in
     let two = rw e₂ at (field-laid 4 s (at + 4) (second .0) b (second .1) .0) in
     let three = rw e₃ at (field-laid 4 s (at + 8) (third .0) b (third .1) .0) in
-    rw (← same-done (third .2), append-nil (bytesOf 4 (third .0)))
-    (both-laid (drop at s) (bytesOf 4 (first .0)) (bytesOf 4 (second .0) ++ bytesOf 4 (third .0)) (drop (at + 4) s) (drop (at + 12) s) one
-    (both-laid (drop (at + 4) s) (bytesOf 4 (second .0)) (bytesOf 4 (third .0)) (drop (at + 8) s) (drop (at + 12) s) two three))
+    rw (← same-done (third .2), append-nil (numberBytes 4 (third .0)))
+    (both-laid (drop at s) (numberBytes 4 (first .0)) (numberBytes 4 (second .0) ++ numberBytes 4 (third .0)) (drop (at + 4) s) (drop (at + 12) s) one
+    (both-laid (drop (at + 4) s) (numberBytes 4 (second .0)) (numberBytes 4 (third .0)) (drop (at + 8) s) (drop (at + 12) s) two three))
 
 pub block-laid : (s : List ℕ) (at : ℕ) (head : Head) (u : Unit {0}) → Bytes s → headAt s at ≡ done head → extentOf at head .next ≤ length s
     → paddingsOf s (extentOf at head) ≡ done u → BlockLaid s at head
-unfolding paddingsOf extentOf padded blockBytes
+unfolding paddingsOf extentOf withPadding blockBytes
 block-laid s at head u b e room zeros =
     let extent = extentOf at head in
     let content = dataIn s at head in

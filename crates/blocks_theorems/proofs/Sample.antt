@@ -5,9 +5,9 @@ use mathlib.Core.Path.{_≡_, refl}
 use native.Mathlib.Omega.{arith}
 use Rattle.blocks.specs.Walk.{tells}
 use Rattle.blocks.specs.File.{fileOf}
-use Rattle.fields_theorems.specs.Encoding.{bytesOf, nameBytes, wordBytes}
+use Rattle.fields_theorems.specs.Encoding.{numberBytes, nameBytes, wordBytes}
 use Rattle.blocks_theorems.specs.Layout.{Blocks, none, block, chain, File, Lawful, Declarations, Continuations, OneOf, plainDeclarations, blockBytes, blocksBytes}
-use Rattle.blocks_theorems.specs.Layout.{chainFields, countOf, fileBytes, padded, rowsFrom, rowsOf}
+use Rattle.blocks_theorems.specs.Layout.{chainFields, countOf, fileBytes, withPadding, rowsLaid, rowsOf}
 use Rattle.blocks.specs.declared.tell.Row.{Row}
 use Rattle.blocks_theorems.proofs.FileWalked.{tree-walked}
 
@@ -27,7 +27,7 @@ sample = record {
 }
 
 pub lawful : Lawful sample
-unfolding sample Declarations Continuations blockBytes blocksBytes chainFields countOf padded bytesOf nameBytes wordBytes
+unfolding sample Declarations Continuations blockBytes blocksBytes chainFields countOf withPadding numberBytes nameBytes wordBytes
 lawful =
     let mesh : OneOf 0xFFFFFF31 plainDeclarations = inr (inr (inr (inr (inr (inr (inl refl)))))) in
     record {
@@ -44,5 +44,5 @@ lawful =
 -- it is walked to the end, with eight rows
 pub sample-walked : (fileOf (fileBytes sample) ≡ tells (rowsOf sample))
     × (map (λ (r : Row). r .depth) (rowsOf sample) ≡ 0 ∷ 0 ∷ 1 ∷ 2 ∷ 3 ∷ 4 ∷ 0 ∷ 0 ∷ [])
-unfolding rowsOf rowsFrom sample
+unfolding rowsOf rowsLaid sample
 sample-walked = (tree-walked sample lawful, refl)

@@ -18,18 +18,18 @@ pub record HandedAt (s : List ℕ) (at : ℕ) (content meta : List ℕ) : Type 0
   pub meta-part : metaPart s at ≡ meta
 
 -- of blocks of which the first stands at `at`
-unfoldable pub Handed : List ℕ → ℕ → Blocks → Type 0
-Handed s at none = Unit {0}
-Handed s at (block type content meta more) = HandedAt s at content meta × Handed s (at + length (blockBytes type content meta)) more
-Handed s at (chain name type inside meta more) =
+unfoldable pub HandedOut : List ℕ → ℕ → Blocks → Type 0
+HandedOut s at none = Unit {0}
+HandedOut s at (block type content meta more) = HandedAt s at content meta × HandedOut s (at + length (blockBytes type content meta)) more
+HandedOut s at (chain name type inside meta more) =
     HandedAt s at (chainData name type inside) meta
     × (chainNameBounds s at ≡ done (record { at = at + 12 + 2; size = length name }))
     × (chainName s at ≡ name)
-    × Handed s (at + 12 + length (chainFields name type (countOf inside))) inside
-    × Handed s (at + length (blockBytes modifierChain (chainData name type inside) meta)) more
+    × HandedOut s (at + 12 + length (chainFields name type (countOf inside))) inside
+    × HandedOut s (at + length (blockBytes modifierChain (chainData name type inside) meta)) more
 
 -- of a whole file
 pub record AllHanded (s : List ℕ) (f : File) : Type 0 where
   pub header : HandedAt s 0 (headerBytes f) (f .meta)
-  pub declarations : Handed s (headerSize f) (f .declarations)
-  pub continuations : Handed s (headerSize f + length (blocksBytes (f .declarations))) (f .continuations)
+  pub declarations : HandedOut s (headerSize f) (f .declarations)
+  pub continuations : HandedOut s (headerSize f + length (blocksBytes (f .declarations))) (f .continuations)

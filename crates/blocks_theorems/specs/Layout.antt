@@ -6,7 +6,7 @@ use mathlib.Core.Logic.{_⊎_}
 use mathlib.Core.Path.{_≡_}
 use lib.ListN.{getD, length, replicate}
 use Rattle.blocks.specs.declared.tell.Row.{Row}
-use Rattle.fields_theorems.specs.Encoding.{bytesOf, nameBytes, wordBytes}
+use Rattle.fields_theorems.specs.Encoding.{numberBytes, nameBytes, wordBytes}
 use Rattle.blocks_theorems.specs.RowParts.{padding}
 
 -- bytes are below 256
@@ -22,16 +22,16 @@ pub data Blocks : Type 0 where
   chain : List ℕ → ℕ → Blocks → List ℕ → Blocks → Blocks
 
 -- a part and "zero bytes to a multiple of 4"
-unfoldable pub padded : List ℕ → List ℕ
-padded part = part ++ replicate (padding (length part)) 0
+unfoldable pub withPadding : List ℕ → List ℕ
+withPadding part = part ++ replicate (padding (length part)) 0
 
 -- "U32 type, data size, meta data size; data, zero bytes to a multiple of 4, meta data, zero bytes likewise. Sizes exclude padding."
 unfoldable pub blockBytes : ℕ → List ℕ → List ℕ → List ℕ
-blockBytes type content meta = wordBytes (type ∷ length content ∷ length meta ∷ []) ++ (padded content ++ padded meta)
+blockBytes type content meta = wordBytes (type ∷ length content ∷ length meta ∷ []) ++ (withPadding content ++ withPadding meta)
 
 -- "name (U16 length, bytes), type, attributes, padding to 4 from the data's start, modifier count"; attributes are 0
 unfoldable pub chainFields : List ℕ → ℕ → ℕ → List ℕ
-chainFields name type count = padded (nameBytes name ++ wordBytes (type ∷ 0 ∷ [])) ++ wordBytes (count ∷ [])
+chainFields name type count = withPadding (nameBytes name ++ wordBytes (type ∷ 0 ∷ [])) ++ wordBytes (count ∷ [])
 
 -- how many blocks stand one after the other
 unfoldable pub countOf : Blocks → ℕ
@@ -63,14 +63,14 @@ rowAt at type content meta depth = record {
 }
 
 -- the rows of blocks of which the first stands at `at`, "a chain before its contents"
-unfoldable pub rowsFrom : ℕ → ℕ → Blocks → List Row
-rowsFrom at depth none = []
-rowsFrom at depth (block type content meta more) =
-    rowAt at type content meta depth ∷ rowsFrom (at + length (blockBytes type content meta)) depth more
-rowsFrom at depth (chain name type inside meta more) =
+unfoldable pub rowsLaid : ℕ → ℕ → Blocks → List Row
+rowsLaid at depth none = []
+rowsLaid at depth (block type content meta more) =
+    rowAt at type content meta depth ∷ rowsLaid (at + length (blockBytes type content meta)) depth more
+rowsLaid at depth (chain name type inside meta more) =
     rowAt at modifierChain (chainData name type inside) meta depth
-    ∷ (rowsFrom (at + 12 + length (chainFields name type (countOf inside))) (suc depth) inside
-    ++ rowsFrom (at + length (blockBytes modifierChain (chainData name type inside) meta)) depth more)
+    ∷ (rowsLaid (at + 12 + length (chainFields name type (countOf inside))) (suc depth) inside
+    ++ rowsLaid (at + length (blockBytes modifierChain (chainData name type inside) meta)) depth more)
 
 -- ---- within the rules
 
@@ -116,7 +116,7 @@ pub record File : Type 0 where
 
 -- where the header ends: 12 and 24 bytes, and its meta data
 abbrev pub headerSize : File → ℕ
-headerSize f = 36 + length (padded (f .meta))
+headerSize f = 36 + length (withPadding (f .meta))
 
 abbrev pub fileSize : File → ℕ
 fileSize f = headerSize f + length (blocksBytes (f .declarations)) + length (blocksBytes (f .continuations))
@@ -124,8 +124,8 @@ fileSize f = headerSize f + length (blocksBytes (f .declarations)) + length (blo
 -- "Header data, 24 bytes, fields as clause 9.4.1 lists them": major and minor version, profile, declaration size, file size, encoding
 unfoldable pub headerBytes : File → List ℕ
 headerBytes f =
-    bytesOf 2 0 ++ (bytesOf 2 (f .minor) ++ (bytesOf 4 (f .profile)
-    ++ (bytesOf 4 (f .declaration-size) ++ (bytesOf 8 (fileSize f) ++ bytesOf 4 (f .encoding)))))
+    numberBytes 2 0 ++ (numberBytes 2 (f .minor) ++ (numberBytes 4 (f .profile)
+    ++ (numberBytes 4 (f .declaration-size) ++ (numberBytes 8 (fileSize f) ++ numberBytes 4 (f .encoding)))))
 
 -- "At the top a header comes once and first .., then declarations, then continuations"
 unfoldable pub fileBytes : File → List ℕ
@@ -134,8 +134,8 @@ fileBytes f = blockBytes 0x00443355 (headerBytes f) (f .meta) ++ (blocksBytes (f
 unfoldable pub rowsOf : File → List Row
 rowsOf f =
     rowAt 0 0x00443355 (headerBytes f) (f .meta) 0
-    ∷ (rowsFrom (headerSize f) 0 (f .declarations)
-    ++ rowsFrom (headerSize f + length (blocksBytes (f .declarations))) 0 (f .continuations))
+    ∷ (rowsLaid (headerSize f) 0 (f .declarations)
+    ++ rowsLaid (headerSize f + length (blocksBytes (f .declarations))) 0 (f .continuations))
 
 -- a file within the rules
 pub record Lawful (f : File) : Type 0 where

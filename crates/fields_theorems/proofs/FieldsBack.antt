@@ -12,28 +12,28 @@ use Rattle.fields.specs.Field.{bytesAt, fieldAt, littleEndian}
 use Rattle.fields.specs.Limits.{longestName}
 use Rattle.fields.specs.Name.{nameAt, nameBounds, namePart, same, stringAt}
 use Rattle.fields.specs.Judged.{done}
-use Rattle.fields_theorems.specs.Encoding.{bytesOf, nameBytes, wordBytes}
+use Rattle.fields_theorems.specs.Encoding.{numberBytes, nameBytes, wordBytes}
 use Rattle.fields_theorems.proofs.Seams.{first-at, past, second-at, within}
 
 -- ---- lengths
 
 -- n bytes are n
-pub length-bytesOf : (n v : ℕ) → length (bytesOf n v) ≡ n
-unfolding bytesOf
-length-bytesOf zero v = refl
-length-bytesOf (suc n) v = ap suc (length-bytesOf n (v / 256))
+pub length-numberBytes : (n v : ℕ) → length (numberBytes n v) ≡ n
+unfolding numberBytes
+length-numberBytes zero v = refl
+length-numberBytes (suc n) v = ap suc (length-numberBytes n (v / 256))
 
 -- a number takes four bytes
 pub length-wordBytes : (vs : List ℕ) → length (wordBytes vs) ≡ 4 * length vs
 unfolding wordBytes
 length-wordBytes [] = refl
-length-wordBytes (v ∷ vs) = omega (arith, length-append (bytesOf 4 v) (wordBytes vs), length-bytesOf 4 v, length-wordBytes vs)
+length-wordBytes (v ∷ vs) = omega (arith, length-append (numberBytes 4 v) (wordBytes vs), length-numberBytes 4 v, length-wordBytes vs)
 
 -- the bytes of numbers and more numbers
 pub wordBytes-append : (vs ws : List ℕ) → wordBytes (vs ++ ws) ≡ wordBytes vs ++ wordBytes ws
 unfolding wordBytes
 wordBytes-append [] ws = refl
-wordBytes-append (v ∷ vs) ws = rw (wordBytes-append vs ws) (sym (append-assoc (bytesOf 4 v) (wordBytes vs) (wordBytes ws)))
+wordBytes-append (v ∷ vs) ws = rw (wordBytes-append vs ws) (sym (append-assoc (numberBytes 4 v) (wordBytes vs) (wordBytes ws)))
 
 -- what follows a run of words begins where the run ends
 pub after-words : (s vs rest : List ℕ) (at n : ℕ) → drop at s ≡ wordBytes vs ++ rest → 4 * length vs ≡ n → drop (at + n) s ≡ rest
@@ -47,21 +47,21 @@ two-runs s vs ws rest at here =
 -- ---- one field
 
 -- a number's bytes are read to the number
-pub number-back : (k : ℕ) (s rest : List ℕ) (at v : ℕ) → v < 256 ^ k → drop at s ≡ bytesOf k v ++ rest → littleEndian k s at ≡ v
-unfolding littleEndian bytesOf
+pub number-back : (k : ℕ) (s rest : List ℕ) (at v : ℕ) → v < 256 ^ k → drop at s ≡ numberBytes k v ++ rest → littleEndian k s at ≡ v
+unfolding littleEndian numberBytes
 number-back zero s rest at v h here = omega arith
 number-back (suc k) s rest at v h here =
-    let low = first-at s (v % 256) (bytesOf k (v / 256) ++ rest) at 0 here in
-    let next = second-at s (v % 256) (bytesOf k (v / 256) ++ rest) at here in
+    let low = first-at s (v % 256) (numberBytes k (v / 256) ++ rest) at 0 here in
+    let next = second-at s (v % 256) (numberBytes k (v / 256) ++ rest) at here in
     let high = number-back k s rest (suc at) (v / 256) (omega arith) next in
     rw (low, high) (omega arith)
 
 -- so is a field of a width above 0
-pub field-back : (k : ℕ) (s rest : List ℕ) (at v : ℕ) → 0 < k → v < 256 ^ k → drop at s ≡ bytesOf k v ++ rest → fieldAt k s at ≡ done v
+pub field-back : (k : ℕ) (s rest : List ℕ) (at v : ℕ) → 0 < k → v < 256 ^ k → drop at s ≡ numberBytes k v ++ rest → fieldAt k s at ≡ done v
 unfolding fieldAt
 field-back k s rest at v w h here =
-    let size = length-bytesOf k v in
-    let room : at + k ≤ length s = omega (arith, within s (bytesOf k v) rest at here (omega arith)) in
+    let size = length-numberBytes k v in
+    let room : at + k ≤ length s = omega (arith, within s (numberBytes k v) rest at here (omega arith)) in
     rw (le-ltb (length s) (at + k) room, number-back k s rest at v h here)
 
 -- ---- a name
@@ -69,7 +69,7 @@ field-back k s rest at v w h here =
 -- a name takes two bytes more than its own
 pub length-nameBytes : (name : List ℕ) → length (nameBytes name) ≡ length name + 2
 unfolding nameBytes
-length-nameBytes name = omega (arith, length-append (bytesOf 2 (length name)) name, length-bytesOf 2 (length name))
+length-nameBytes name = omega (arith, length-append (numberBytes 2 (length name)) name, length-numberBytes 2 (length name))
 
 -- what follows a name begins where it ends
 pub after-name : (s name rest : List ℕ) (at : ℕ) → drop at s ≡ nameBytes name ++ rest → drop (at + (length name + 2)) s ≡ rest
@@ -85,7 +85,7 @@ name-room s name rest at here =
 pub name-back : (s name rest : List ℕ) (at : ℕ) → length name ≤ longestName → drop at s ≡ nameBytes name ++ rest → nameAt s at ≡ done (length name)
 unfolding nameAt stringAt nameBytes
 name-back s name rest at h here =
-    let bytes = here ∙ append-assoc (bytesOf 2 (length name)) name rest in
+    let bytes = here ∙ append-assoc (numberBytes 2 (length name)) name rest in
     let field = field-back 2 s (name ++ rest) at (length name) (omega arith) (omega arith) bytes in
     rw (field, le-ltb (length s) (at + (length name + 2)) (name-room s name rest at here), le-ltb longestName (length name) h)
 
@@ -99,8 +99,8 @@ name-bounds-back s name rest at h here = rw (name-back s name rest at h here)
 pub name-part : (s name rest : List ℕ) (at : ℕ) → length name ≤ longestName → drop at s ≡ nameBytes name ++ rest → namePart s at ≡ name
 unfolding namePart bytesAt nameBytes
 name-part s name rest at h here =
-    let bytes = here ∙ append-assoc (bytesOf 2 (length name)) name rest in
-    let from : drop (at + 2) s ≡ name ++ rest = past s (bytesOf 2 (length name)) (name ++ rest) at bytes 2 (length-bytesOf 2 (length name)) in
+    let bytes = here ∙ append-assoc (numberBytes 2 (length name)) name rest in
+    let from : drop (at + 2) s ≡ name ++ rest = past s (numberBytes 2 (length name)) (name ++ rest) at bytes 2 (length-numberBytes 2 (length name)) in
     let room : at + 2 + length name ≤ length s = omega (arith, name-room s name rest at here) in
     rw (name-bounds-back s name rest at h here, le-ltb (length s) (at + 2 + length name) room, from) (take-append-seam name rest)
 

@@ -4,15 +4,15 @@ use mathlib.Core.List.{List, [], _∷_, _++_}
 use lib.ListN.{length}
 
 -- the lowest n bytes of a number: "Little-endian"
-unfoldable pub bytesOf : ℕ → ℕ → List ℕ
-bytesOf zero v = []
-bytesOf (suc n) v = v % 256 ∷ bytesOf n (v / 256)
+unfoldable pub numberBytes : ℕ → ℕ → List ℕ
+numberBytes zero v = []
+numberBytes (suc n) v = v % 256 ∷ numberBytes n (v / 256)
 
 -- numbers, each as a U32
 unfoldable pub wordBytes : List ℕ → List ℕ
 wordBytes [] = []
-wordBytes (v ∷ vs) = bytesOf 4 v ++ wordBytes vs
+wordBytes (v ∷ vs) = numberBytes 4 v ++ wordBytes vs
 
 -- "name (U16 length, bytes)"
 unfoldable pub nameBytes : List ℕ → List ℕ
-nameBytes name = bytesOf 2 (length name) ++ name
+nameBytes name = numberBytes 2 (length name) ++ name

@@ -7,9 +7,9 @@ use native.Mathlib.Omega.{arith}
 use borrow.Author.Tests.{le-ltb}
 use Rattle.fields.specs.Limits.{anyNumber}
 use Rattle.fields.specs.Judged.{done}
-use Rattle.fields_theorems.specs.Encoding.{bytesOf, wordBytes}
+use Rattle.fields_theorems.specs.Encoding.{numberBytes, wordBytes}
 use Rattle.fields_theorems.proofs.Seams.{past}
-use Rattle.fields_theorems.proofs.FieldsBack.{after-words, field-back, length-bytesOf, two-runs}
+use Rattle.fields_theorems.proofs.FieldsBack.{after-words, field-back, length-numberBytes, two-runs}
 use Rattle.mesh.specs.Run.{ruledAt, runAt, unjudged}
 use Rattle.mesh.specs.declared.run.Rule.{Rule}
 use Rattle.mesh_theorems.specs.Encoding.{All, Words}
@@ -22,7 +22,7 @@ pub record Kept (rule : Rule) (v : ℕ) : Type 0 where
   pub most : v ≤ rule .most
 
 -- a judged field is read to its number
-pub ruled-back : (rule : Rule) (s rest : List ℕ) (at v : ℕ) → Kept rule v → drop at s ≡ bytesOf 4 v ++ rest → ruledAt rule s at ≡ done v
+pub ruled-back : (rule : Rule) (s rest : List ℕ) (at v : ℕ) → Kept rule v → drop at s ≡ numberBytes 4 v ++ rest → ruledAt rule s at ≡ done v
 unfolding ruledAt
 ruled-back rule s rest at v k here =
     rw (
@@ -46,8 +46,8 @@ run-back [] s [] rest at k here = refl
 run-back [] s (v ∷ vs) rest at k here = absurd k
 run-back (rule ∷ rules) s [] rest at k here = absurd k
 run-back (rule ∷ rules) s (v ∷ vs) rest at k here =
-    let here′ : drop at s ≡ bytesOf 4 v ++ (wordBytes vs ++ rest) = here ∙ append-assoc (bytesOf 4 v) (wordBytes vs) rest in
-    let next = past s (bytesOf 4 v) (wordBytes vs ++ rest) at here′ 4 (length-bytesOf 4 v) in
+    let here′ : drop at s ≡ numberBytes 4 v ++ (wordBytes vs ++ rest) = here ∙ append-assoc (numberBytes 4 v) (wordBytes vs) rest in
+    let next = past s (numberBytes 4 v) (wordBytes vs ++ rest) at here′ 4 (length-numberBytes 4 v) in
     rw (ruled-back rule s (wordBytes vs ++ rest) at v (k .0) here′, run-back rules s vs rest (at + 4) (k .1) next)
 
 -- and so is a run with more words after it, which begin where it ends

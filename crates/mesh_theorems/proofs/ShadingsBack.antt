@@ -9,7 +9,7 @@ use Rattle.fields.specs.Judged.{done}
 use Rattle.mesh.specs.Run.{unjudged}
 use Rattle.mesh.specs.Shading.{layerLimit, shadingAt, shadingRules, shadingsAt}
 use Rattle.mesh.specs.declared.shading.Shading.{Shading}
-use Rattle.fields_theorems.specs.Encoding.{bytesOf, wordBytes}
+use Rattle.fields_theorems.specs.Encoding.{numberBytes, wordBytes}
 use Rattle.fields_theorems.proofs.FieldsBack.{after-words, field-back, two-runs}
 use Rattle.mesh_theorems.specs.Encoding.{All, Shadeable, shadingFields, shadingsFields}
 use Rattle.mesh_theorems.proofs.FieldsBack.{Keeps, keeps-words, part-back}
@@ -41,7 +41,7 @@ shading-back s rest at sh h here =
     let layered = ap (λ (n : ℕ). 4 * n) (h .layers .many) in
     let one = part-back shadingRules s first (used ++ last) rest at 8 kept refl here in
     let two = part-back (replicate layers unjudged) s used last rest (at + 8) (4 * layers) unruled layered (one .1) in
-    let last-here = two .1 ∙ append-assoc (bytesOf 4 (sh .«original_id»)) [] rest in
+    let last-here = two .1 ∙ append-assoc (numberBytes 4 (sh .«original_id»)) [] rest in
     let three = field-back 4 s rest (at + 8 + 4 * layers) (sh .«original_id») (omega arith) (omega (arith, h .original)) last-here in
     let end : at + 8 + 4 * layers + 4 ≡ at + 4 * length (shadingFields sh) = omega (arith, length-shading sh h) in
     rw (one .0, two .0, three, ← h .layers .rest, end)

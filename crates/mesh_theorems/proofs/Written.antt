@@ -7,8 +7,8 @@ use mathlib.Core.Path.{_≡_, ap, refl}
 use native.Mathlib.Omega.{arith}
 use lib.ListN.{getD, length, length-append, length-replicate, length-take, replicate, take}
 use Rattle.fields.specs.Limits.{largestCount, largestFile}
-use Rattle.fields_theorems.specs.Encoding.{bytesOf, nameBytes}
-use Rattle.fields_theorems.proofs.FieldsBack.{length-bytesOf, length-wordBytes}
+use Rattle.fields_theorems.specs.Encoding.{numberBytes, nameBytes}
+use Rattle.fields_theorems.proofs.FieldsBack.{length-numberBytes, length-wordBytes}
 use Rattle.coder.specs.Histogram.{freshHistogram, sum}
 use Rattle.coder_theorems.specs.Runs.{AllKeep, afterSteps, endCall, numberIn, put, takenCalls, writeCalls}
 use Rattle.coder_theorems.specs.Enough.{enough}
@@ -54,9 +54,9 @@ base-length name m coded h =
     let counts = wordBytes (0 ∷ m .counts) in
     omega (
       arith,
-      length-append (bytesOf 2 (length name) ++ name) (counts ++ (pools ++ coded)),
-      length-append (bytesOf 2 (length name)) name,
-      length-bytesOf 2 (length name),
+      length-append (numberBytes 2 (length name) ++ name) (counts ++ (pools ++ coded)),
+      length-append (numberBytes 2 (length name)) name,
+      length-numberBytes 2 (length name),
       length-append counts (pools ++ coded),
       length-append pools coded,
       length-wordBytes (0 ∷ m .counts),

@@ -17,12 +17,12 @@ use Rattle.coder_theorems.proofs.Inner.{map-set}
 use Rattle.oysterfold.specs.CoderState.{coderIn, coderLength, coderWords, histogramInto}
 use Rattle.oysterfold.specs.Reading as reading
 use Rattle.oysterfold.specs.Result.{resultWords, valueTold}
-use Rattle.oysterfold_theorems.specs.ExportedRuns.{AllHaveExports, AllLong, HasExport, Read, ReaderLong, callTold, exportedRead, exportedReads, frequenciesIn, readBy, readTold}
+use Rattle.oysterfold_theorems.specs.ExportedRuns.{AllHaveExports, AllLong, HasExport, ReadAnswer, ReaderLongEnough, callReport, exportedRead, exportedReads, frequenciesIn, readBy, readReport}
 use Rattle.oysterfold_theorems.proofs.Returned.{read-carried, taken-carried}
 use Rattle.oysterfold_theorems.proofs.ExportedRuns.{into-long, long-at, long-set, value-told}
 
 -- an exported read answers as the coder's does, and leaves in the arrays what that leaves
-record ReadCarried (r : Read) (c : ReadCall) : Type 0 where
+record ReadCarried (r : ReadAnswer) (c : ReadCall) : Type 0 where
   number : r .number ≡ c .result .number
   value : r .value ≡ c .result .value
   state : coderIn (r .state) ≡ c .result .state
@@ -67,8 +67,8 @@ read-long short t state result h = by (ltb (length result) resultWords) short
     by false true = h
     by false false = handed (t .done)
 
-reader-long : (count : ℕ) (result d state : List ℕ) (histograms : List (List ℕ)) (c : Context) → ReaderLong count state histograms
-    → (let r = exportedRead result d state histograms c in ReaderLong count (r .state) (r .histograms))
+reader-long : (count : ℕ) (result d state : List ℕ) (histograms : List (List ℕ)) (c : Context) → ReaderLongEnough count state histograms
+    → (let r = exportedRead result d state histograms c in ReaderLongEnough count (r .state) (r .histograms))
 unfolding exportedRead
 reader-long count result d state histograms (plain bytes) l =
     record { own = read-long _ _ state result (l .own); frequencies = l .frequencies; many = l .many }
@@ -81,8 +81,8 @@ reader-long count result d state histograms (dynamic k) l = record {
 }
 
 pub reads-told : (count : ℕ) (result d : List ℕ) (cs : List Context) (state : List ℕ) (histograms : List (List ℕ)) → resultWords ≤ length result
-    → ReaderLong count state histograms → AllHaveExports count cs
-    → map readTold (exportedReads result d state histograms cs) ≡ map callTold (readCalls d (coderIn state) (frequenciesIn histograms) cs)
+    → ReaderLongEnough count state histograms → AllHaveExports count cs
+    → map readReport (exportedReads result d state histograms cs) ≡ map callReport (readCalls d (coderIn state) (frequenciesIn histograms) cs)
 unfolding AllHaveExports exportedReads readCalls
 reads-told count result d [] state histograms h l x = refl
 reads-told count result d (c ∷ cs) state histograms h l x =

@@ -12,7 +12,7 @@ use Rattle.coder_theorems.specs.Runs.{AllKeep, AllTyped, Called, Held, Step, af
 use Rattle.coder_theorems.proofs.RoundTrip.{round-trip}
 use Rattle.oysterfold.specs.CoderState.{coderIn, writerIn}
 use Rattle.oysterfold.specs.Result.{resultWords}
-use Rattle.oysterfold_theorems.specs.ExportedRuns.{AllExported, AllHaveExports, Arrays, HasExport, Long, ReaderLong, Told, callTold, exportedEnd, exportedReads, exportedSteps, exportedUsed, frequenciesIn, heldIn, readTold, writtenTold}
+use Rattle.oysterfold_theorems.specs.ExportedRuns.{AllExported, AllHaveExports, Arrays, HasExport, LongEnough, ReaderLongEnough, Report, callReport, exportedEnd, exportedReads, exportedSteps, exportedUsed, frequenciesIn, heldIn, readReport, writtenReport}
 use Rattle.oysterfold_theorems.proofs.ExportedRuns.{end-held, steps-held}
 use Rattle.oysterfold_theorems.proofs.ExportedReads.{reads-told}
 
@@ -35,10 +35,10 @@ taken-exports count (escape k v ∷ steps) h x = absurd (x .0)
 taken-exports count (lend buffer ∷ steps) h x = taken-exports count steps (afterStep h (lend buffer)) (x .1)
 taken-exports count (finish ∷ steps) h x = taken-exports count steps (afterStep h finish) (x .1)
 
--- what is told of a number that is read back
-told-back : (took : List Called) → map callTold (map readBack took) ≡ map writtenTold took
+-- what is report of a number that is read back
+told-back : (took : List Called) → map callReport (map readBack took) ≡ map writtenReport took
 told-back [] = refl
-told-back (c ∷ took) = ap (λ (l : List Told). writtenTold c ∷ l) (told-back took)
+told-back (c ∷ took) = ap (λ (l : List Report). writtenReport c ∷ l) (told-back took)
 
 -- the coder's round trip, from what a caller holds
 Returns : List ℕ → List Step → Held → Type 0
@@ -59,28 +59,28 @@ held-returns rest steps h new =
 -- bytes that the end tells are used, whatever follows them within 16 MiB, the exported reads in the same contexts, from a fresh state on, each answer
 -- 0 and tell the number; and after each the histogram arrays hold the frequencies that they held after the write.
 pub exported-round-trip : (count : ℕ) (steps : List Step) (a : Arrays) (result reader : List ℕ) (histograms : List (List ℕ)) (rest : List ℕ)
-    → resultWords ≤ length result → Long count a → ReaderLong count reader histograms → writerIn (a .state) ≡ freshWriter → coderIn reader ≡ fresh
+    → resultWords ≤ length result → LongEnough count a → ReaderLongEnough count reader histograms → writerIn (a .state) ≡ freshWriter → coderIn reader ≡ fresh
     → frequenciesIn histograms ≡ frequenciesIn (a .histograms) → AllExported count steps
     → (let took = takenCalls (writeCalls (heldIn a) steps) in
     let last = exportedSteps result a steps in
     let ended = exportedEnd result last in
     let d = take (exportedUsed result last) (ended .arrays .buffer) ++ rest in
     AllTyped (map numberIn took) → AllKeep (heldIn a) steps → ended .number ≡ 0 → length d ≤ largestFile
-    → map readTold (exportedReads result d reader histograms (map contextIn took)) ≡ map writtenTold took)
+    → map readReport (exportedReads result d reader histograms (map contextIn took)) ≡ map writtenReport took)
 unfolding Returns
 exported-round-trip count steps a result reader histograms rest h l r new began same x t keep e small =
     let took = takenCalls (writeCalls (heldIn a) steps) in
     let last = exportedSteps result a steps in
     let run = steps-held count result steps a h l x in
-    let told = end-held last (run .1 .state) result h in
+    let report = end-held last (run .1 .state) result h in
     let ended = endCall (afterSteps (heldIn a) steps) in
     let as-held : endCall (heldIn last) ≡ ended = ap endCall (run .0) in
-    let used : exportedUsed result last ≡ ended .used = told .1 ∙ ap (λ (k : End). k .used) as-held in
-    let bytes : exportedEnd result last .arrays .buffer ≡ ended .bytes = ap (λ (k : Held). k .buffer) (told .2) ∙ ap (λ (k : End). k .bytes) as-held in
-    let number : ended .number ≡ 0 = sym (told .0 ∙ ap (λ (k : End). k .number) as-held) ∙ e in
+    let used : exportedUsed result last ≡ ended .used = report .1 ∙ ap (λ (k : End). k .used) as-held in
+    let bytes : exportedEnd result last .arrays .buffer ≡ ended .bytes = ap (λ (k : Held). k .buffer) (report .2) ∙ ap (λ (k : End). k .bytes) as-held in
+    let number : ended .number ≡ 0 = sym (report .0 ∙ ap (λ (k : End). k .number) as-held) ∙ e in
     let d : List ℕ = take (ended .used) (ended .bytes) ++ rest in
     let coded : take (exportedUsed result last) (exportedEnd result last .arrays .buffer) ++ rest ≡ d = λ i. take (used i) (bytes i) ++ rest in
     let back = held-returns rest steps (heldIn a) new t keep number (subst (λ (k : List ℕ). length k ≤ largestFile) coded small) in
-    subst (λ (k : List ℕ). map readTold (exportedReads result k reader histograms (map contextIn took)) ≡ map writtenTold took) (sym coded)
+    subst (λ (k : List ℕ). map readReport (exportedReads result k reader histograms (map contextIn took)) ≡ map writtenReport took) (sym coded)
     (reads-told count result d (map contextIn took) reader histograms h r (taken-exports count steps (heldIn a) x)
-    ∙ rw (began, same) (ap (map callTold) back) ∙ told-back took)
+    ∙ rw (began, same) (ap (map callReport) back) ∙ told-back took)

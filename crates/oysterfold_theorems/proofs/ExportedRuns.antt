@@ -15,17 +15,17 @@ use Rattle.coder_theorems.proofs.Inner.{map-set}
 use Rattle.oysterfold.specs.CoderState.{histogramInto, writerIn, writerLength, writerWords}
 use Rattle.oysterfold.specs.Result.{resultWords, valueTold}
 use Rattle.oysterfold.specs.Writing.{handedBy, usedInto, writeBytes, writtenInto}
-use Rattle.oysterfold_theorems.specs.ExportedRuns.{AllExported, AllLong, Answer, Arrays, HasExport, Long, answerBy, exportedEnd, exportedNumbers, exportedPut, exportedStep, exportedSteps, exportedUsed, frequenciesIn, heldIn, numberAnswered}
+use Rattle.oysterfold_theorems.specs.ExportedRuns.{AllExported, AllLong, WriteAnswer, Arrays, HasExport, LongEnough, answerBy, exportedEnd, exportedNumbers, exportedPut, exportedStep, exportedSteps, exportedUsed, frequenciesIn, heldIn, numberAnswered}
 use Rattle.oysterfold_theorems.proofs.Returned.{end-carried, write-carried, written-carried}
 
--- a value that is told in a result
+-- a value that is report in a result
 pub value-told : (value : ℕ) (result : List ℕ) → resultWords ≤ length result → getD (valueTold value result) 1 0 ≡ value
 value-told value result h = rw (sets-eq (0 ∷ value ∷ []) result 0 h) refl
 
 -- ---- a call
 
 -- a call of the exported writer answers as the coder's does, and leaves in the arrays what that leaves
-pub record Carried (e : Answer) (c : WriteCall) : Type 0 where
+pub record Carried (e : WriteAnswer) (c : WriteCall) : Type 0 where
   pub number : e .number ≡ c .result .number
   pub held : heldIn (e .arrays) ≡ heldAfter c
 
@@ -96,7 +96,7 @@ module _ (a : Arrays) (long : writerLength ≤ length (a .state)) where
 
 -- ---- a run
 
-put-long : (count : ℕ) (a : Arrays) (c : Context) (v : ℕ) → Long count a → Long count (exportedPut a c v .arrays)
+put-long : (count : ℕ) (a : Arrays) (c : Context) (v : ℕ) → LongEnough count a → LongEnough count (exportedPut a c v .arrays)
 unfolding exportedPut
 put-long count a (plain bytes) v l = record { state = into-state _ _ (a .state) (a .buffer) (l .state); histograms = l .histograms; many = l .many }
 put-long count a (static range) v l = record { state = into-state _ _ (a .state) (a .buffer) (l .state); histograms = l .histograms; many = l .many }
@@ -106,13 +106,13 @@ put-long count a (dynamic k) v l = record {
   many = length-set (a .histograms) k _ ∙ l .many;
 }
 
-end-long : (count : ℕ) (result : List ℕ) (a : Arrays) → Long count a → Long count (exportedEnd result a .arrays)
+end-long : (count : ℕ) (result : List ℕ) (a : Arrays) → LongEnough count a → LongEnough count (exportedEnd result a .arrays)
 unfolding exportedEnd
 end-long count result a l = record { state = into-state _ _ (a .state) (a .buffer) (l .state); histograms = l .histograms; many = l .many }
 
 -- the arrays after any steps hold what the coder's caller then holds
-pub steps-held : (count : ℕ) (result : List ℕ) (steps : List Step) (a : Arrays) → resultWords ≤ length result → Long count a → AllExported count steps
-    → (heldIn (exportedSteps result a steps) ≡ afterSteps (heldIn a) steps) × Long count (exportedSteps result a steps)
+pub steps-held : (count : ℕ) (result : List ℕ) (steps : List Step) (a : Arrays) → resultWords ≤ length result → LongEnough count a → AllExported count steps
+    → (heldIn (exportedSteps result a steps) ≡ afterSteps (heldIn a) steps) × LongEnough count (exportedSteps result a steps)
 unfolding AllExported afterSteps afterStep exportedSteps exportedStep
 steps-held count result [] a h l x = (refl, l)
 steps-held count result (put n ∷ steps) a h l x =
@@ -128,7 +128,7 @@ steps-held count result (finish ∷ steps) a h l x =
     (rest .0 ∙ ap (λ (k : Held). afterSteps k steps) (e .2), rest .1)
 
 -- the calls for numbers answer as the coder's do
-pub numbers-answered : (count : ℕ) (result : List ℕ) (steps : List Step) (a : Arrays) → resultWords ≤ length result → Long count a
+pub numbers-answered : (count : ℕ) (result : List ℕ) (steps : List Step) (a : Arrays) → resultWords ≤ length result → LongEnough count a
     → AllExported count steps → exportedNumbers result a steps ≡ map numberAnswered (writeCalls (heldIn a) steps)
 unfolding AllExported afterStep exportedNumbers exportedStep writeCalls
 numbers-answered count result [] a h l x = refl

@@ -31,15 +31,15 @@ abbrev pub heldIn : Arrays → Held
 heldIn a = record { buffer = a .buffer; writer = writerIn (a .state); histograms = frequenciesIn (a .histograms) }
 
 -- 01's number, and the arrays after a call
-pub record Answer : Type 0 where
+pub record WriteAnswer : Type 0 where
   pub number : ℕ
   pub arrays : Arrays
 
-abbrev pub answerBy : Handed → List (List ℕ) → Answer
+abbrev pub answerBy : Handed → List (List ℕ) → WriteAnswer
 answerBy h histograms = record { number = h .number; arrays = record { state = h .state; histograms = histograms; buffer = h .buffer } }
 
 -- oysterfold_write_plain, oysterfold_write_static, oysterfold_write_dynamic
-unfoldable pub exportedPut : Arrays → Context → ℕ → Answer
+unfoldable pub exportedPut : Arrays → Context → ℕ → WriteAnswer
 exportedPut a (plain bytes) v =
     answerBy (writtenInto (shorter writerLength (a .state)) (writeBytes bytes (a .buffer) (writerIn (a .state)) v) (a .state) (a .buffer)) (a .histograms)
 exportedPut a (static range) v =
@@ -52,7 +52,7 @@ exportedPut a (dynamic k) v =
     (set (a .histograms) k (histogramInto short (writtenHistogram (take symbols histogram) (a .buffer) w v) histogram))
 
 -- oysterfold_write_end, with its result: place and bytes used
-unfoldable pub exportedEnd : List ℕ → Arrays → Answer
+unfoldable pub exportedEnd : List ℕ → Arrays → WriteAnswer
 exportedEnd result a =
     let short = shorter resultWords result || shorter writerLength (a .state) in
     answerBy (writtenInto short (endWrite (end (a .buffer) (writerIn (a .state)))) (a .state) (a .buffer)) (a .histograms)
@@ -85,17 +85,17 @@ numberAnswered c = c .call .result .number
 -- ---- reading
 
 -- what the exported readers answer: 01's number, the value, and the arrays after it
-pub record Read : Type 0 where
+pub record ReadAnswer : Type 0 where
   pub number : ℕ
   pub value : ℕ
   pub state : List ℕ
   pub histograms : List (List ℕ)
 
-abbrev pub readBy : reading.Handed → List (List ℕ) → Read
+abbrev pub readBy : reading.Handed → List (List ℕ) → ReadAnswer
 readBy h histograms = record { number = h .number; value = getD (h .result) 1 0; state = h .state; histograms = histograms }
 
 -- oysterfold_read_plain, oysterfold_read_static, oysterfold_read_dynamic, each with its result: place and value
-unfoldable pub exportedRead : List ℕ → List ℕ → List ℕ → List (List ℕ) → Context → Read
+unfoldable pub exportedRead : List ℕ → List ℕ → List ℕ → List (List ℕ) → Context → ReadAnswer
 exportedRead result d state histograms (plain bytes) =
     readBy (reading.readInto (shorter coderLength state) (reading.takeBytes bytes d (coderIn state)) state result) histograms
 exportedRead result d state histograms (static range) =
@@ -106,7 +106,7 @@ exportedRead result d state histograms (dynamic k) =
     readBy (reading.readInto short (takeDynamic (take symbols histogram) d (coderIn state)) state result)
     (set histograms k (histogramInto (shorter resultWords result || short) (takenHistogram (take symbols histogram) d (coderIn state)) histogram))
 
-unfoldable pub exportedReads : List ℕ → List ℕ → List ℕ → List (List ℕ) → List Context → List Read
+unfoldable pub exportedReads : List ℕ → List ℕ → List ℕ → List (List ℕ) → List Context → List ReadAnswer
 exportedReads result d state histograms [] = []
 exportedReads result d state histograms (c ∷ cs) =
     let r = exportedRead result d state histograms c in
@@ -120,13 +120,13 @@ AllLong [] = Unit {0}
 AllLong (h ∷ hs) = (symbols ≤ length h) × AllLong hs
 
 -- a writer's arrays that are long enough, with so many histograms
-pub record Long (count : ℕ) (a : Arrays) : Type 0 where
+pub record LongEnough (count : ℕ) (a : Arrays) : Type 0 where
   pub state : writerLength ≤ length (a .state)
   pub histograms : AllLong (a .histograms)
   pub many : length (a .histograms) ≡ count
 
 -- and a reader's
-pub record ReaderLong (count : ℕ) (state : List ℕ) (histograms : List (List ℕ)) : Type 0 where
+pub record ReaderLongEnough (count : ℕ) (state : List ℕ) (histograms : List (List ℕ)) : Type 0 where
   pub own : coderLength ≤ length state
   pub frequencies : AllLong histograms
   pub many : length histograms ≡ count
@@ -151,23 +151,23 @@ unfoldable pub AllExported : ℕ → List Step → Type 0
 AllExported count [] = Unit {0}
 AllExported count (step ∷ steps) = StepExported count step × AllExported count steps
 
--- ---- what is told
+-- ---- what is report
 
 -- the answer to a call for a number, its value, and the frequencies after it
-pub record Told : Type 0 where
+pub record Report : Type 0 where
   pub number : ℕ
   pub value : ℕ
   pub histograms : Histograms
 
-abbrev pub told : ℕ → ℕ → Histograms → Told
-told number value histograms = record { number = number; value = value; histograms = histograms }
+abbrev pub report : ℕ → ℕ → Histograms → Report
+report number value histograms = record { number = number; value = value; histograms = histograms }
 
 -- of an exported read, of the coder's own, and of a number that the writer took
-abbrev pub readTold : Read → Told
-readTold r = told (r .number) (r .value) (frequenciesIn (r .histograms))
+abbrev pub readReport : ReadAnswer → Report
+readReport r = report (r .number) (r .value) (frequenciesIn (r .histograms))
 
-abbrev pub callTold : ReadCall → Told
-callTold r = told (r .result .number) (r .result .value) (r .histograms)
+abbrev pub callReport : ReadCall → Report
+callReport r = report (r .result .number) (r .result .value) (r .histograms)
 
-abbrev pub writtenTold : Called → Told
-writtenTold c = told 0 (c .number .value) (c .call .histograms)
+abbrev pub writtenReport : Called → Report
+writtenReport c = report 0 (c .number .value) (c .call .histograms)

@@ -10,7 +10,9 @@ use crate::report::Difference;
 use crate::tally::Tally;
 use independent::coder::{fresh_histogram, State, SYMBOLS};
 use independent::files::blocks::large_file;
-use independent::files::climb::{text_of, Ladder, LIST_HEAD};
+use independent::files::climb::{
+    text_of, Ladder, LIST_HEAD, MOVE_NUMBERS, NEW_FACE_NUMBERS, STEP_HEAD,
+};
 use independent::files::mesh::{self as files, MeshPlan, RandomPicks, Shading, TABLES, WIDTHS};
 use independent::random::Random;
 use independent::refusal::{
@@ -271,7 +273,19 @@ fn climb_gives(number: u32, list: &[u32], tally: &mut Tally) -> Result<(), Diffe
     .map(drop)
 }
 
-/// The steps' limit and one more; and a text of 15.6 MB, with 64 moves and new faces in every step.
+/// Every number of a step but its counts and its moves' corners as large as it can be.
+fn lengthen(step: &mut [u32]) {
+    let faces_at = STEP_HEAD + MAX_MOVES as usize * MOVE_NUMBERS;
+    for (i, word) in step.iter_mut().enumerate() {
+        let is_count = (STEP_HEAD - 2..STEP_HEAD).contains(&i);
+        let is_corner = (STEP_HEAD..faces_at).contains(&i) && (i - STEP_HEAD) % MOVE_NUMBERS == 1;
+        if !is_count && !is_corner {
+            *word = u32::MAX;
+        }
+    }
+}
+
+/// The steps' limit and one more; and the longest text, which passes 16 MiB: 64 moves and new faces in every step.
 fn long_climbs(tally: &mut Tally) -> Result<(), Difference> {
     let mut random = Random::of_input(0, 0);
     for (steps, number) in [(MAX_STEPS, 0), (MAX_STEPS + 1, 13)] {
@@ -293,8 +307,9 @@ fn long_climbs(tally: &mut Tally) -> Result<(), Difference> {
         each,
     };
     let mut list = largest.climb(&mut random).list;
-    let long_numbers = |word: &mut u32| *word = if *word > 2 * each { u32::MAX } else { *word };
-    list[LIST_HEAD..].iter_mut().for_each(long_numbers);
+    let words = STEP_HEAD + each as usize * (MOVE_NUMBERS + NEW_FACE_NUMBERS);
+    list[LIST_HEAD..].chunks_mut(words).for_each(lengthen);
+    assert!(text_of(&list).bytes().len() > MAX_BYTES);
     climb_gives(0, &list, tally)
 }
 
