@@ -7,7 +7,7 @@ use native.Mathlib.Omega.{arith}
 use lib.Dec.{ltb}
 use lib.ListN.{getD, length, replicate}
 use Rattle.fields.specs.Limits.{largestFile, longestName}
-use Rattle.fields.specs.Numbers.{badName, bytesLeft, outOfOrder, overLimit, truncated}
+use Rattle.fields.specs.Numbers.{badName, bytesLeft, noRoom, outOfOrder, outOfRange, overLimit, truncated}
 use Rattle.fields.specs.Judged.{Judged, done, refused, onDone, refusedIf}
 use Rattle.fields.specs.Field.{fieldAt}
 use Rattle.fields.specs.Name.{nameAt, namePart, same, stringAt}
@@ -15,13 +15,16 @@ use Rattle.coder_theorems.specs.Runs.{isOn}
 use Rattle.mesh.specs.Run.{ruledAt, runAt, unjudged}
 use Rattle.mesh.specs.Shading.{shadingAt, shadingRules, shadingsAt}
 use Rattle.mesh.specs.Declaration.{closingRules, declarationOf, openingRules}
-use Rattle.mesh.specs.Base.{baseRules, headOf, meshNumbers, poolsAt, sized}
+use Rattle.mesh.specs.Base.{baseRules, headOf, poolsAt, sized}
 use Rattle.mesh.specs.declared.run.Rule.{Rule}
 use Rattle.mesh.specs.declared.declaration.Declaration.{Declaration}
 
--- a mesh's number: 1, 8, 9, 10, 11, 12 or 17
+-- a mesh's number
+abbrev pub listed : List ℕ
+listed = truncated ∷ badName ∷ overLimit ∷ outOfRange ∷ outOfOrder ∷ noRoom ∷ bytesLeft ∷ []
+
 abbrev pub Listed : ℕ → Type 0
-Listed k = isOn meshNumbers k ≡ true
+Listed k = isOn listed k ≡ true
 
 -- A refusal has such a number.
 abbrev pub Numbered : {A : Type 0} → Judged A → Type 0

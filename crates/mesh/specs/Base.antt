@@ -6,7 +6,7 @@ use lib.Dec.{leb, ltb}
 use lib.ListN.{drop, getD, length, replicate}
 use Rattle.fields.specs.All.{all}
 use Rattle.fields.specs.Limits.{largestCount, largestFile}
-use Rattle.fields.specs.Numbers.{badName, bytesLeft, noRoom, outOfOrder, outOfRange, overLimit, truncated}
+use Rattle.fields.specs.Numbers.{badName, noRoom, overLimit}
 use Rattle.fields.specs.Judged.{Judged, done, refused, onDone, pick, refusedIf}
 use Rattle.fields.specs.Name.{nameAt, namePart, same}
 use Rattle.mesh.specs.Run.{Ended, filled, runAt, unjudged, upTo, valuesOf}
@@ -133,10 +133,6 @@ meshOf d s lengths =
     inPart part.the-variants.Continuation (sized s) λ _.
     inPart part.the-variants.Declaration (declarationOf d) λ declaration.
     inPart part.the-variants.Continuation (baseOf s (meshName d) declaration lengths) read
-
--- the numbers that a mesh is refused with, of those that 01 lists
-abbrev pub meshNumbers : List ℕ
-meshNumbers = truncated ∷ badName ∷ overLimit ∷ outOfRange ∷ outOfOrder ∷ noRoom ∷ bytesLeft ∷ []
 
 -- ---- the answer, and the six tables
 

@@ -21,12 +21,13 @@ use Rattle.coder_theorems.proofs.Steady.{Sound, Steady, fresh-steady, went}
 use Rattle.mesh.specs.Declaration.{declarationOf, meshName}
 use Rattle.mesh.specs.Corners.{absent, cornerFields, fieldContext, formOf, present, shadingContext}
 use Rattle.mesh.specs.Faces.{Coded, codedNumber, cornersFrom, faceFrom, facesFrom, facesOf, fieldFrom, placedAt, shadingFrom}
-use Rattle.mesh.specs.Base.{InPart, baseOf, hasRoom, headOf, inPart, meshNumbers, meshOf, poolWords, poolsAt, read, refusedIn, sized}
+use Rattle.mesh.specs.Base.{InPart, baseOf, hasRoom, headOf, inPart, meshOf, poolWords, poolsAt, read, refusedIn, sized}
 use Rattle.mesh.specs.declared.declaration.Declaration.{Declaration}
 use Rattle.mesh.specs.declared.faces.CornerForm.{CornerForm}
 use Rattle.mesh.specs.declared.base.Part.{Part}
 use Rattle.mesh.specs.declared.base.Part as part
 use Rattle.mesh.proofs.Refusals.{Listed, Numbered, after, declaration-numbered, head-numbered, pools-numbered, sized-numbered, unless}
+use Rattle.mesh_theorems.specs.Refusals.{meshNumbers}
 use Rattle.mesh_theorems.proofs.SmallCounts.{counts-small}
 
 -- ---- judging that stays steady

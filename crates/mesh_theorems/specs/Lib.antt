@@ -1,3 +1,4 @@
+pub mod Refusals
 pub mod CornerInfo
 pub mod Below
 pub mod FaceNumbers

@@ -1,29 +1,13 @@
 -- 01's whole example of a climb text is read to the example list of the table. By computing.
 use mathlib.Core.Path.{_≡_, refl}
-use mathlib.Core.List.{List, [], _∷_}
-use Prim.Native.Nat.{ℕ}
 use Rattle.fields.specs.Judged.{done}
 use Rattle.fields.specs.Name.{same}
 use Rattle.climb.specs.Digits.{areDigits, isDecimal, isPattern, valueAfter}
 use Rattle.climb.specs.Lines.{fieldOf, fieldsAfter, has, past, rowFrom, until}
 use Rattle.climb.specs.Climb.{climbOf, itemsFrom, stepFrom}
 use Rattle.worked_examples.specs.Row.{exampleList}
+use Rattle.worked_examples.specs.ExampleText.{exampleText}
 
--- 01's whole example, byte by byte
-text : List ℕ
-text =
-    -- climb 1 3 1
-    0x63 ∷ 0x6C ∷ 0x69 ∷ 0x6D ∷ 0x62 ∷ 0x09 ∷ 0x31 ∷ 0x09 ∷ 0x33 ∷ 0x09 ∷ 0x31 ∷ 0x0A ∷
-    -- split 2 3f800000 00000000 bf800000
-    0x73 ∷ 0x70 ∷ 0x6C ∷ 0x69 ∷ 0x74 ∷ 0x09 ∷ 0x32 ∷ 0x09 ∷ 0x33 ∷ 0x66 ∷ 0x38 ∷ 0x30 ∷ 0x30 ∷ 0x30 ∷ 0x30 ∷ 0x30 ∷ 0x09 ∷ 0x30 ∷ 0x30 ∷ 0x30 ∷ 0x30 ∷ 0x30 ∷ 0x30 ∷ 0x30 ∷ 0x30 ∷ 0x09 ∷ 0x62 ∷ 0x66 ∷ 0x38 ∷ 0x30 ∷ 0x30 ∷ 0x30 ∷ 0x30 ∷ 0x30 ∷ 0x0A ∷
-    -- move 0 2
-    0x6D ∷ 0x6F ∷ 0x76 ∷ 0x65 ∷ 0x09 ∷ 0x30 ∷ 0x09 ∷ 0x32 ∷ 0x0A ∷
-    -- face 1 1 2 3
-    0x66 ∷ 0x61 ∷ 0x63 ∷ 0x65 ∷ 0x09 ∷ 0x31 ∷ 0x09 ∷ 0x31 ∷ 0x09 ∷ 0x32 ∷ 0x09 ∷ 0x33 ∷ 0x0A ∷
-    -- end 1
-    0x65 ∷ 0x6E ∷ 0x64 ∷ 0x09 ∷ 0x31 ∷ 0x0A ∷
-    []
-
-example-read : climbOf text ≡ done exampleList
-unfolding text climbOf rowFrom itemsFrom stepFrom fieldsAfter fieldOf isDecimal isPattern areDigits valueAfter until past has same
+pub example-read : climbOf exampleText ≡ done exampleList
+unfolding exampleText climbOf rowFrom itemsFrom stepFrom fieldsAfter fieldOf isDecimal isPattern areDigits valueAfter until past has same
 example-read = refl
