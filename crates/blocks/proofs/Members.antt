@@ -7,7 +7,7 @@ use Prim.Native.Nat.{ℕ}
 use borrow.Author.Tests.{eq-eqb, ne-eqb}
 use lib.Dec.{eqb}
 use Rattle.fields.specs.Judged.{pick}
-use Rattle.blocks.specs.Kind.{member}
+use Rattle.fields.specs.Member.{member}
 
 -- x is y or one of the list
 abbrev pub OneOf : ℕ → ℕ → List ℕ → Type 0

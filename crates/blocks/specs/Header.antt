@@ -8,7 +8,8 @@ use Rattle.fields.specs.Numbers.{truncated, badHeader, badSize, badProfile, ove
 use Rattle.fields.specs.Limits.{largestFile}
 use Rattle.fields.specs.Judged.{Judged, done, refused, refusedBy, onDone, refusedIf, pick}
 use Rattle.fields.specs.Field.{fieldAt}
-use Rattle.blocks.specs.Kind.{member, headerType}
+use Rattle.fields.specs.Member.{member}
+use Rattle.blocks.specs.Kind.{headerType}
 use Rattle.blocks.specs.Head.{headSize, headAt, extentOf, roomOf, paddingsOf}
 use Rattle.blocks.specs.declared.head.Head.{Head}
 use Rattle.blocks.specs.declared.header.FileHeader.{FileHeader}

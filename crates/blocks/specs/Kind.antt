@@ -4,12 +4,9 @@ use mathlib.Core.List.{List, [], _∷_}
 use mathlib.Core.Bool.{Bool, true, false}
 use lib.Dec.{eqb, ltb}
 use Rattle.fields.specs.Judged.{pick}
+use Rattle.fields.specs.Member.{member}
 use Rattle.blocks.specs.declared.kind.Kind.{Kind}
 use Rattle.blocks.specs.declared.kind.Kind.the-variants.{Header, Declaration, Continuation, Unknown}
-
-abbrev pub member : ℕ → List ℕ → Bool
-member x [] = false
-member x (y ∷ ys) = pick (eqb x y) true (member x ys)
 
 abbrev pub headerType : ℕ
 headerType = 0x00443355

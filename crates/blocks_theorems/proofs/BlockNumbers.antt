@@ -15,7 +15,8 @@ use Rattle.fields.specs.Field.{fieldAt, littleEndian}
 use Rattle.fields.specs.Name.{nameAt, stringAt}
 use Rattle.fields.proofs.Judging.{field-within, name-within}
 use Rattle.blocks.specs.Padding.{alignedTo, zerosOf}
-use Rattle.blocks.specs.Kind.{member, kindOf, isChain, chainType}
+use Rattle.fields.specs.Member.{member}
+use Rattle.blocks.specs.Kind.{kindOf, isChain, chainType}
 use Rattle.blocks.specs.Head.{headAt, extentOf, roomOf, paddingsOf}
 use Rattle.blocks.specs.Chain.{inChain, countAt, fieldsAfterName, chainAt}
 use Rattle.blocks.specs.Block.{levels, standingOf, contentsAt, judgedAt, blockAt, blockIn}

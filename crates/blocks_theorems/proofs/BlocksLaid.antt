@@ -12,7 +12,8 @@ use lib.Seq.{getD-take}
 use Rattle.fields.specs.Numbers.{badChain}
 use Rattle.fields.specs.Judged.{Judged, done, refused, pick}
 use Rattle.fields.proofs.Judging.{not-done}
-use Rattle.blocks.specs.Kind.{member, headerType, chainType, knownTypes, declarations, continuations, classOf, kindOf, isChain, isContinuation}
+use Rattle.fields.specs.Member.{member}
+use Rattle.blocks.specs.Kind.{headerType, chainType, knownTypes, declarations, continuations, classOf, kindOf, isChain, isContinuation}
 use Rattle.blocks.specs.Head.{extentOf, paddingsOf}
 use Rattle.blocks.specs.Chain.{chainAt}
 use Rattle.blocks.specs.Block.{levels, standingOf, blockAt}

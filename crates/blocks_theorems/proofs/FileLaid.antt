@@ -13,7 +13,8 @@ use Rattle.fields.specs.Limits.{largestFile}
 use Rattle.fields.specs.Judged.{done}
 use Rattle.fields.specs.Field.{fieldAt}
 use Rattle.fields.proofs.Judging.{passed, same-done, value-before}
-use Rattle.blocks.specs.Kind.{member, headerType}
+use Rattle.fields.specs.Member.{member}
+use Rattle.blocks.specs.Kind.{headerType}
 use Rattle.blocks.specs.Head.{headAt, extentOf, roomOf, paddingsOf}
 use Rattle.blocks.specs.Header.{headerData, headerEnd, profiles, versionOf, fieldsOf, restOf, judgedOf, firstOf}
 use Rattle.blocks.specs.Block.{levels}

@@ -12,7 +12,8 @@ use Rattle.fields.specs.Numbers.{truncated, badHeader, badSize, badProfile, bad
 use Rattle.fields.specs.Limits.{largestFile}
 use Rattle.fields.specs.Judged.{refused, pick}
 use Rattle.fields.specs.Field.{fieldAt}
-use Rattle.blocks.specs.Kind.{member, headerType, isChain, isContinuation}
+use Rattle.fields.specs.Member.{member}
+use Rattle.blocks.specs.Kind.{headerType, isChain, isContinuation}
 use Rattle.blocks.specs.Head.{headAt, extentOf, roomOf, paddingsOf}
 use Rattle.blocks.specs.Header.{headerData, headerEnd, profiles, versionOf, fieldsOf, restOf, judgedOf, firstOf}
 use Rattle.blocks.specs.Chain.{inChain}

@@ -10,7 +10,7 @@ use borrow.Author.Tests.{eq-eqb, le-ltb}
 use lib.ListN.{drop, length, length-append, replicate}
 use Rattle.fields.specs.Judged.{done}
 use Rattle.fields.specs.Limits.{largestFile}
-use Rattle.blocks.specs.Kind.{member}
+use Rattle.fields.specs.Member.{member}
 use Rattle.blocks.specs.Head.{extentOf}
 use Rattle.blocks.specs.Header.{profiles, versionOf, fieldsOf, restOf, judgedOf, firstOf}
 use Rattle.blocks.specs.Block.{levels}

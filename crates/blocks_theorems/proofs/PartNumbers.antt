@@ -12,7 +12,8 @@ use Rattle.fields.specs.Limits.{largestFile}
 use Rattle.fields.specs.Judged.{Judged, onDone}
 use Rattle.fields.specs.Name.{nameAt, nameBounds}
 use Rattle.fields.specs.declared.bounds.Bounds.{Bounds}
-use Rattle.blocks.specs.Kind.{member, chainType}
+use Rattle.fields.specs.Member.{member}
+use Rattle.blocks.specs.Kind.{chainType}
 use Rattle.blocks.specs.Head.{headAt, extentOf}
 use Rattle.blocks.specs.Chain.{inChain}
 use Rattle.blocks.specs.Parts.{headIn, within, dataWithin, metaWithin, chainNameWithin, dataBounds, metaBounds, chainNameBounds}

@@ -8,7 +8,7 @@ use borrow.Author.Tests.{eqb-true}
 use lib.Dec.{eqb}
 use Rattle.fields.specs.Numbers.{truncated, badChain}
 use Rattle.fields.specs.Judged.{Judged, done, refused, onDone, refusedIf, pick}
-use Rattle.blocks.specs.Kind.{member}
+use Rattle.fields.specs.Member.{member}
 use Rattle.blocks.specs.Chain.{inChain}
 use Rattle.blocks.specs.Walk.{Outcome, andThen, onJudged}
 use Rattle.blocks_theorems.specs.Refusals.{Refusing}

@@ -5,7 +5,7 @@ use mathlib.Core.List.{List, [], _∷_}
 use mathlib.Core.Path.{_≡_}
 use lib.Dec.{eqb}
 use Rattle.fields.specs.Judged.{Judged, done, refused, pick}
-use Rattle.blocks.specs.Kind.{member}
+use Rattle.fields.specs.Member.{member}
 use Rattle.blocks.specs.Block.{levels}
 
 -- a refusal has one of these numbers, and its place is at most `end`

@@ -19,7 +19,8 @@ use Rattle.coder.specs.Writing.{kept}
 use Rattle.coder.specs.declared.interval.Coder.{Coder}
 use Rattle.coder.specs.declared.read.Found.{Found}
 use Rattle.coder_theorems.proofs.Doubling.{bits}
-use Rattle.coder_theorems.specs.Runs.{AllFormed, AllPresent, Context, Histograms, NoFault, NoneAtFault, Present, ReadCall, allBits, callRead, dynamic, mostBits, plain, readCalls, static}
+use Rattle.coder_theorems.specs.Runs.{Context, Histograms, ReadCall, callRead, dynamic, plain, readCalls, static}
+use Rattle.coder_theorems.specs.Faults.{AllFormed, AllPresent, NoFault, NoneAtFault, Present, allBits, mostBits}
 use Rattle.fields.specs.Limits.{largestFile}
 use Rattle.fields.specs.Numbers.{outOfRange, truncated}
 use lib.Dec.{leb, ltb}

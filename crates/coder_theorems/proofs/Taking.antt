@@ -17,7 +17,8 @@ use Rattle.coder_theorems.proofs.Doubling.{bits, symbols-few}
 use Rattle.coder_theorems.proofs.Opening.{Opened, Whole, steps-opened}
 use Rattle.coder_theorems.proofs.Steady.{formed-at, formed-set}
 use Rattle.coder_theorems.proofs.Storing.{length-store}
-use Rattle.coder_theorems.specs.Runs.{AllFormed, AllKeep, Context, Held, Histograms, Number, WriteCall, afterStep, afterSteps, begun, callWrite, dynamic, endCall, mostSymbols, numberIn, plain, put, static, takenCalls, writeCalls}
+use Rattle.coder_theorems.specs.Runs.{AllKeep, Context, Held, Histograms, Number, WriteCall, afterStep, afterSteps, begun, callWrite, dynamic, endCall, mostSymbols, numberIn, plain, put, static, takenCalls, writeCalls}
+use Rattle.coder_theorems.specs.Faults.{AllFormed}
 use Rattle.coder_theorems.specs.Enough.{AllTake, Takes, allSymbols, enough}
 use Rattle.fields.specs.Limits.{largestFile}
 use borrow.Author.Tests.{le-leb, lt-ltb}

@@ -1,6 +1,6 @@
 -- Runs of calls: numbers in contexts, written one after the other in buffers that are lent, and read back. Each call is handed the state and
 -- the histograms that the one before gave back.
-use Prim.Native.Nat.{ℕ, suc, _+_, _*_, _^_, _<_}
+use Prim.Native.Nat.{ℕ, suc, _^_, _<_}
 use Rattle.coder.specs.Bytes.{bytesOf}
 use Rattle.coder.specs.Histogram.{Histogram, histogramFormed, raised, spanOf, sum, values}
 use Rattle.coder.specs.declared.interval.Coder.{Coder}
@@ -11,10 +11,9 @@ use Rattle.coder.specs.Totals.{takeCounted}
 use Rattle.coder.specs.Writing.{End, Write, end, freshWriter, kept, write, writeDynamic, writeNumber, writePlain, writeStatic, writtenHistogram}
 use Rattle.coder.specs.declared.write.Writer.{Writer}
 use Rattle.fields.specs.Judged.{pick}
-use Rattle.fields.specs.Numbers.{outOfRange, truncated}
-use lib.Dec.{eqb, ltb}
+use lib.Dec.{ltb}
 use lib.ListN.{getD, set, take}
-use mathlib.Core.Bool.{Bool, true, false, _||_}
+use mathlib.Core.Bool.{true, false}
 use mathlib.Core.List.{List, [], _∷_, map}
 use mathlib.Core.Path.{_≡_}
 
@@ -180,42 +179,6 @@ takeCalls d s hs totals (c ∷ cs) =
 -- what is told of a judged call, and the sums of its histograms
 abbrev pub withTotals : ReadCall → TakeCall
 withTotals r = record { result = r .result; histograms = r .histograms; totals = map sum (r .histograms) }
-
--- the bits that a read settles or postpones at most, counted as 32 a symbol
-abbrev pub mostBits : Context → ℕ
-mostBits c = 32 * mostSymbols c
-
-abbrev pub allBits : List Context → ℕ
-allBits [] = 0
-allBits (c ∷ cs) = mostBits c + allBits cs
-
--- every histogram is well formed, and every dynamic context has one of so many
-unfoldable pub AllFormed : Histograms → Type 0
-AllFormed [] = Unit {0}
-AllFormed (h ∷ hs) = (histogramFormed h ≡ true) × AllFormed hs
-
-abbrev pub Present : ℕ → Context → Type 0
-Present count (plain n) = Unit {0}
-Present count (static range) = Unit {0}
-Present count (dynamic k) = k < count
-
-unfoldable pub AllPresent : ℕ → List Context → Type 0
-AllPresent count [] = Unit {0}
-AllPresent count (c ∷ cs) = Present count c × AllPresent count cs
-
--- a number is on a list
-abbrev pub isOn : List ℕ → ℕ → Bool
-isOn [] n = false
-isOn (m ∷ ms) n = eqb n m || isOn ms n
-
--- a read that is done has the number 0, and one that is refused 1 or 10: never 9 or 18
-abbrev pub NoFault : Bool → ℕ → Type 0
-NoFault true n = n ≡ 0
-NoFault false n = isOn (truncated ∷ outOfRange ∷ []) n ≡ true
-
-unfoldable pub NoneAtFault : List ReadCall → Type 0
-NoneAtFault [] = Unit {0}
-NoneAtFault (r ∷ rs) = NoFault (r .result .done) (r .result .number) × NoneAtFault rs
 
 -- what a reader has to give back of a number that was taken: the number, and the state and histograms that the writer's call left
 abbrev pub readBack : Called → ReadCall

@@ -2,6 +2,7 @@ pub mod Numbers
 pub mod Limits
 pub mod All
 pub mod Judged
+pub mod Member
 pub mod Field
 pub mod Bounds
 pub mod Name

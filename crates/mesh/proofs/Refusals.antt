@@ -8,10 +8,10 @@ use lib.Dec.{ltb}
 use lib.ListN.{getD, length, replicate}
 use Rattle.fields.specs.Limits.{largestFile, longestName}
 use Rattle.fields.specs.Numbers.{badName, bytesLeft, noRoom, outOfOrder, outOfRange, overLimit, truncated}
+use Rattle.fields.specs.Member.{member}
 use Rattle.fields.specs.Judged.{Judged, done, refused, onDone, refusedIf}
 use Rattle.fields.specs.Field.{fieldAt}
 use Rattle.fields.specs.Name.{nameAt, namePart, same, stringAt}
-use Rattle.coder_theorems.specs.Runs.{isOn}
 use Rattle.mesh.specs.Run.{ruledAt, runAt, unjudged}
 use Rattle.mesh.specs.Shading.{shadingAt, shadingRules, shadingsAt}
 use Rattle.mesh.specs.Declaration.{closingRules, declarationOf, openingRules}
@@ -24,7 +24,7 @@ abbrev pub listed : List ℕ
 listed = truncated ∷ badName ∷ overLimit ∷ outOfRange ∷ outOfOrder ∷ noRoom ∷ bytesLeft ∷ []
 
 abbrev pub Listed : ℕ → Type 0
-Listed k = isOn listed k ≡ true
+Listed k = member k listed ≡ true
 
 -- A refusal has such a number.
 abbrev pub Numbered : {A : Type 0} → Judged A → Type 0

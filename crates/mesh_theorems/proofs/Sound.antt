@@ -1,7 +1,7 @@
 -- Coded faces are refused with 1 or 10 only, and a mesh with one of its numbers: a reader that begins fresh goes from states that it takes to
 -- states that it takes, as long as its bits can be counted, and a face has few bits.
 use Prim.Native.Nat.{ℕ, zero, suc, _+_, _*_, _%_, _^_, _≤_, _<_}
-use mathlib.Core.Bool.{Bool, true, false, _||_, not}
+use mathlib.Core.Bool.{Bool, true, false, not}
 use mathlib.Core.List.{List, [], _∷_}
 use mathlib.Core.Path.{_≡_, refl}
 use native.Mathlib.Omega.{arith}
@@ -10,13 +10,15 @@ use lib.Dec.{eqb, leb, ltb}
 use lib.ListN.{drop, getD, length, length-drop}
 use Rattle.fields.specs.Limits.{largestCount, largestFile}
 use Rattle.fields.specs.Numbers.{noRoom, outOfRange, overLimit, truncated}
+use Rattle.fields.specs.Member.{member}
 use Rattle.fields.specs.Judged.{Judged, done, refused, onDone, pick, refusedIf}
 use Rattle.fields.proofs.Judging.{passed}
 use Rattle.coder.specs.Histogram.{freshHistogram, histogramFormed, sum}
 use Rattle.coder.specs.Interval.{fresh}
 use Rattle.coder.specs.Reading.{Taken}
 use Rattle.coder.specs.declared.interval.Coder.{Coder}
-use Rattle.coder_theorems.specs.Runs.{AllFormed, Histograms, NoFault, callRead, isOn, mostBits, static}
+use Rattle.coder_theorems.specs.Runs.{Histograms, callRead, static}
+use Rattle.coder_theorems.specs.Faults.{AllFormed, NoFault, mostBits}
 use Rattle.coder_theorems.proofs.Steady.{Sound, Steady, fresh-steady, went}
 use Rattle.mesh.specs.Declaration.{declarationOf, meshName}
 use Rattle.mesh.specs.Corners.{absent, cornerFields, fieldContext, formOf, present, shadingContext}
@@ -135,7 +137,7 @@ module _ (d : List ℕ) where
 
 -- Whatever the bytes are, up to 16 MiB, coded faces, up to 65,536, are refused with 1 or 10 only, never with 9 or 18.
 pub faces-sound : (declaration : Declaration) (counts : List ℕ) (n : ℕ) (d : List ℕ) → n ≤ largestCount → length d ≤ largestFile
-    → (k p : ℕ) → facesOf declaration counts n d ≡ refused k p → isOn (truncated ∷ outOfRange ∷ []) k ≡ true
+    → (k p : ℕ) → facesOf declaration counts n d ≡ refused k p → member k (truncated ∷ outOfRange ∷ []) ≡ true
 unfolding facesOf
 faces-sound declaration counts n d few small k p e =
     let hs = freshHistogram ∷ [] in
@@ -145,10 +147,10 @@ faces-sound declaration counts n d few small k p e =
 -- ---- a mesh
 
 -- 1 and 10 are numbers of a mesh
-face-listed : (k : ℕ) → isOn (truncated ∷ outOfRange ∷ []) k ≡ true → Listed k
+face-listed : (k : ℕ) → member k (truncated ∷ outOfRange ∷ []) ≡ true → Listed k
 face-listed k e = go (eqb k truncated) (eqb k outOfRange) refl refl e
   where
-    go : (a b : Bool) → eqb k truncated ≡ a → eqb k outOfRange ≡ b → (a || (b || false)) ≡ true → Listed k
+    go : (a b : Bool) → eqb k truncated ≡ a → eqb k outOfRange ≡ b → pick a true (pick b true false) ≡ true → Listed k
     go true b f g e = let one : k ≡ truncated = eqb-true _ _ f in rw one
     go false true f g e = let ten : k ≡ outOfRange = eqb-true _ _ g in rw ten
     go false false f g e = let z : _≡_ {A = ℕ} 0 1 = cc in absurd (omega arith)
@@ -195,5 +197,5 @@ whole-numbered d s lengths =
     (base-numbered s (meshName d) declaration lengths (sized-small s v f)) λ m h. tt
 
 -- Whatever is lent, a mesh that is refused has one of 01's numbers 1, 8, 9, 10, 11, 12 and 17: never 0, and never 18.
-pub mesh-sound : (d s lengths : List ℕ) (q : Part) (n p : ℕ) → meshOf d s lengths ≡ refusedIn q n p → isOn meshNumbers n ≡ true
+pub mesh-sound : (d s lengths : List ℕ) (q : Part) (n p : ℕ) → meshOf d s lengths ≡ refusedIn q n p → member n meshNumbers ≡ true
 mesh-sound d s lengths q n p e = rw e at (whole-numbered d s lengths)
