@@ -1,6 +1,6 @@
 -- The refusals of a block: its leading numbers, place, room, a chain's fields, and paddings.
 use Prim.Native.Nat.{ℕ, zero, suc, _+_, _-_, _≤_}
-use mathlib.Core.Bool.{Bool, true, false}
+use mathlib.Core.Bool.{Bool, true, false, true≢false}
 use mathlib.Core.List.{List}
 use mathlib.Core.Path.{_≡_, refl}
 use native.Mathlib.Omega.{arith}
@@ -121,15 +121,15 @@ standing-refusing Header remaining continued e = refl
 standing-refusing (Continuation t) remaining continued e = by (eqb remaining levels) e
   where
     by : (b : Bool) → eqb (pick b 0 11) 0 ≡ false → member (pick b 0 11) blockNumbers ≡ true
-    by true e = let z : _≡_ {A = ℕ} 0 1 = cc in absurd (omega arith)
+    by true e = absurd (true≢false e)
     by false e = refl
 standing-refusing (Declaration t) remaining true e = refl
 standing-refusing (Declaration t) remaining false e = by (eqb t chainType) (eqb remaining 0) e
   where
     by : (b d : Bool) → eqb (pick b (pick d 7 0) 0) 0 ≡ false → member (pick b (pick d 7 0) 0) blockNumbers ≡ true
     by true true e = refl
-    by true false e = let z : _≡_ {A = ℕ} 0 1 = cc in absurd (omega arith)
-    by false d e = let z : _≡_ {A = ℕ} 0 1 = cc in absurd (omega arith)
+    by true false e = absurd (true≢false e)
+    by false d e = absurd (true≢false e)
 
 module _ (s : List ℕ) (at : ℕ) where
   contents-refusing : (kind : Kind) (head : Head) (e : Extent) → at + 12 ≤ e .«data_end» → e .«data_end» ≤ length s

@@ -1,6 +1,6 @@
 -- Blocks that were walked to the end are laid out one after the other: the converse of BlocksWalked.
 use Prim.Native.Nat.{ℕ, zero, suc, _+_, _-_, _≤_, _<_}
-use mathlib.Core.Bool.{Bool, true, false}
+use mathlib.Core.Bool.{Bool, true, false, false≢true}
 use mathlib.Core.List.{List, [], _∷_, _++_, append-assoc, append-nil, map}
 use mathlib.Core.Logic.{_⊎_, inl, inr}
 use mathlib.Core.Path.{_≡_, refl, ap, sym, _∙_}
@@ -35,7 +35,7 @@ use Rattle.blocks_theorems.proofs.ChainLaid.{ChainLaid, chain-laid}
 
 -- one of a list makes one of the list that a rule makes of it
 pub listed : (f : ℕ → ℕ) (d : ℕ) (ys : List ℕ) → member d ys ≡ true → OneOf (f d) (map f ys)
-listed f d [] m = absurd (let z : _≡_ {A = ℕ} 0 1 = cc in omega arith)
+listed f d [] m = absurd (false≢true m)
 listed f d (y ∷ ys) m = by (eqb d y) refl m (listed f d ys)
   where
     by : (t : Bool) → eqb d y ≡ t → pick t true (member d ys) ≡ true → (member d ys ≡ true → OneOf (f d) (map f ys)) → (f d ≡ f y) ⊎ OneOf (f d) (map f ys)
@@ -130,7 +130,7 @@ module _ (s : List ℕ) (at remaining count : ℕ) (b : Block) (l : BlockLaid s 
     declarations = (o, tail .declarations);
     continuations = tail .continuations;
     here = block-here (tail .declared) (tail .continuing) (tail .here);
-    after = λ e. absurd (let z : _≡_ {A = ℕ} 0 1 = cc in omega arith);
+    after = λ e. absurd (false≢true e);
     inner = λ ne. (tail .inner ne .0, ap suc (tail .inner ne .1));
   }
 
@@ -175,7 +175,7 @@ module _ (s : List ℕ) (at remaining count : ℕ) (b : Block) (l : BlockLaid s 
     declarations = (chained .short, chained .low, inside .declarations, tail .declarations);
     continuations = tail .continuations;
     here = block-here s at (suc remaining) count b l extent (tail .declared) (tail .continuing) (tail .here) ∙ rw (type, data-laid);
-    after = λ e. absurd (let z : _≡_ {A = ℕ} 0 1 = cc in omega arith);
+    after = λ e. absurd (false≢true e);
     inner = λ ne. (tail .inner ne .0, ap suc (tail .inner ne .1));
   }
 

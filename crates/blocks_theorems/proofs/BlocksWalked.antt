@@ -1,6 +1,6 @@
 -- Blocks that are laid out one after the other are walked to their rows.
 use Prim.Native.Nat.{ℕ, zero, suc, _+_, _-_, _≤_, _<_}
-use mathlib.Core.Bool.{Bool, true, false, _&&_, not, and-eq-true-iff}
+use mathlib.Core.Bool.{Bool, true, false, _&&_, not, and-eq-true-iff, false≢true}
 use mathlib.Core.List.{List, [], _∷_, _++_, append-assoc, append-nil}
 use mathlib.Core.Logic.{inl, inr}
 use mathlib.Core.Path.{_≡_, refl, ap, sym, _∙_}
@@ -68,9 +68,9 @@ declaration-kind x o = by (kindOf x) refl (passes (λ y. declares (kindOf y) y) 
     by (Declaration t) q e =
         let both = and-eq-true-iff (eqb t x) (not (eqb x chainType)) .0 e in
         (q ∙ ap Declaration (eqb-true t x (both .0)), not-true (eqb x chainType) (both .1))
-    by Header q e = absurd (let z : _≡_ {A = ℕ} 0 1 = cc in omega arith)
-    by (Continuation t) q e = absurd (let z : _≡_ {A = ℕ} 0 1 = cc in omega arith)
-    by Unknown q e = absurd (let z : _≡_ {A = ℕ} 0 1 = cc in omega arith)
+    by Header q e = absurd (false≢true e)
+    by (Continuation t) q e = absurd (false≢true e)
+    by Unknown q e = absurd (false≢true e)
 
 continuation-kind : (x : ℕ) → OneOf x continuationTypes → kindOf x ≡ Continuation x
 unfolding kindOf classOf
@@ -78,9 +78,9 @@ continuation-kind x o = by (kindOf x) refl (passes (λ y. continues (kindOf y) y
   where
     by : (k : Kind) → kindOf x ≡ k → continues k x ≡ true → kindOf x ≡ Continuation x
     by (Continuation t) q e = q ∙ ap Continuation (eqb-true t x e)
-    by Header q e = absurd (let z : _≡_ {A = ℕ} 0 1 = cc in omega arith)
-    by (Declaration t) q e = absurd (let z : _≡_ {A = ℕ} 0 1 = cc in omega arith)
-    by Unknown q e = absurd (let z : _≡_ {A = ℕ} 0 1 = cc in omega arith)
+    by Header q e = absurd (false≢true e)
+    by (Declaration t) q e = absurd (false≢true e)
+    by Unknown q e = absurd (false≢true e)
 
 -- ---- one block
 

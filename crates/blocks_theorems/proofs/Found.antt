@@ -1,9 +1,8 @@
 -- What a block that was found was judged by.
 use Prim.Native.Nat.{ℕ, _+_, _-_}
-use mathlib.Core.Bool.{Bool, true, false}
+use mathlib.Core.Bool.{Bool, true, false, false≢true}
 use mathlib.Core.List.{List}
-use mathlib.Core.Path.{_≡_, refl}
-use native.Mathlib.Omega.{arith}
+use mathlib.Core.Path.{_≡_, _∙_, refl, sym}
 use borrow.Author.Tests.{eqb-true}
 use lib.Dec.{eqb}
 use lib.ListN.{length, take}
@@ -40,7 +39,7 @@ module _ (s : List ℕ) (at remaining : ℕ) (continued : Bool) where
           let f = in-chain-done _ (q .0) (q .1) in
           rw (← same-done (q .2)) (record { head = h; kind = k; stands = z; extent = refl; fields = λ _. f })
       by false c e =
-          rw (← same-done e) (record { head = h; kind = k; stands = z; extent = refl; fields = λ y. absurd (let z : _≡_ {A = ℕ} 0 1 = cc in omega arith) })
+          rw (← same-done e) (record { head = h; kind = k; stands = z; extent = refl; fields = λ y. absurd (false≢true (sym c ∙ y)) })
 
   pub block-found : (b : Block) → blockAt s at remaining continued ≡ done b → Found s at remaining continued b
   unfolding blockAt judgedAt

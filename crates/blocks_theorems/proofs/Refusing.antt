@@ -1,6 +1,6 @@
 -- How refusals go through a judgement: one law for each form that a definition judges by.
 use Prim.Native.Nat.{ℕ, _≤_}
-use mathlib.Core.Bool.{Bool, true, false, _&&_, and-eq-true-iff}
+use mathlib.Core.Bool.{Bool, true, false, _&&_, and-eq-true-iff, false≢true}
 use mathlib.Core.List.{List, [], _∷_}
 use mathlib.Core.Path.{_≡_, refl}
 use native.Mathlib.Omega.{arith}
@@ -52,7 +52,7 @@ allIn [] others = true
 allIn (n ∷ more) others = member n others && allIn more others
 
 in-both : (these others : List ℕ) (n : ℕ) → allIn these others ≡ true → member n these ≡ true → member n others ≡ true
-in-both [] others n e m = absurd (let z : _≡_ {A = ℕ} 0 1 = cc in omega arith)
+in-both [] others n e m = absurd (false≢true m)
 in-both (x ∷ more) others n e m =
     let both = and-eq-true-iff (member x others) (allIn more others) .0 e in
     by (both .0) (in-both more others n (both .1)) (eqb n x) refl m

@@ -12,6 +12,7 @@ use Rattle.coder.specs.Histogram.{Histogram, WellFormedHistogram, histogramForm
 use Rattle.coder.specs.Interval.{Agrees, code}
 use Rattle.coder.specs.declared.interval.Coder.{Coder}
 use Rattle.coder.specs.declared.interval.Span.{Span}
+use Rattle.coder.specs.declared.read.Found.{Found}
 use Rattle.coder.specs.Reading.{readNumber, takeDynamic, takeNumber, takePlain, takeStatic, taken, takenHistogram}
 use Rattle.coder_theorems.specs.Runs.{Context, Histograms, Typed, callEscape, callRead, callWrite, called, dynamic, escapeAfter, escapeSpans, plain, readBack, static}
 use Rattle.coder.specs.Symbols.{afterSymbols, dynamicAfter, dynamicSpans, plainSpans, staticSpans, symbolsBits}
@@ -22,7 +23,7 @@ use borrow.Author.Tests.{lt-ltb, ltb-true}
 use lib.Dec.{ltb}
 use lib.ListN.{getD, length, take}
 use lib.Seq.{set-getD}
-use mathlib.Core.Bool.{Bool, true, false}
+use mathlib.Core.Bool.{Bool, true, false, true≢false, false≢true}
 use mathlib.Core.List.{List, [], _++_}
 use mathlib.Core.Path.{_≡_, refl}
 use native.Mathlib.Omega.{arith}
@@ -114,12 +115,12 @@ write-done : (n : ℕ) (l : List ℕ) (w : Writer) (compresses : Bool) (spans : 
     → (write n l w compresses spans) .number ≡ 0
 unfolding write
 write-done zero l w compresses spans e = refl
-write-done (suc n) l w compresses spans e = let z : _≡_ {A = ℕ} 0 1 = cc in absurd (omega arith)
+write-done (suc n) l w compresses spans e = absurd (false≢true e)
 
 write-refused : (n : ℕ) (l : List ℕ) (w : Writer) (compresses : Bool) (spans : List Span) (later lent : Histogram)
     → (let r = write n l w compresses spans in r .done ≡ false → (r .bytes ≡ l) × (r .writer ≡ w) × (kept n later lent ≡ lent))
 unfolding write
-write-refused zero l w compresses spans later lent e = let z : _≡_ {A = ℕ} 0 1 = cc in absurd (omega arith)
+write-refused zero l w compresses spans later lent e = absurd (true≢false e)
 write-refused (suc n) l w compresses spans later lent e = (refl, refl, refl)
 
 pub call-done : (l : List ℕ) (w : Writer) (hs : Histograms) (c : Context) (v : ℕ)
@@ -157,14 +158,14 @@ escape-refused l w hs k v e =
 as-refused : (n : ℕ) (l : List ℕ) (w : Writer) (next : Coder) (bits : List ℕ)
     → (let r = endAs n l w next bits in r .done ≡ false → (r .bytes ≡ l) × (r .writer ≡ w))
 unfolding endAs
-as-refused zero l w next bits e = let z : _≡_ {A = ℕ} 0 1 = cc in absurd (omega arith)
+as-refused zero l w next bits e = absurd (true≢false e)
 as-refused (suc n) l w next bits e = (refl, refl)
 
 as-done : (n : ℕ) (l : List ℕ) (w : Writer) (next : Coder) (bits : List ℕ)
     → (let r = endAs n l w next bits in r .done ≡ true → r .number ≡ 0)
 unfolding endAs
 as-done zero l w next bits e = refl
-as-done (suc n) l w next bits e = let z : _≡_ {A = ℕ} 0 1 = cc in absurd (omega arith)
+as-done (suc n) l w next bits e = absurd (false≢true e)
 
 pub end-done : (l : List ℕ) (w : Writer) → (end l w) .done ≡ true → (end l w) .number ≡ 0
 unfolding end
@@ -173,6 +174,17 @@ end-done l w e = as-done (endNumber l w) l w _ _ e
 pub end-refused : (l : List ℕ) (w : Writer) → (end l w) .done ≡ false → ((end l w) .bytes ≡ l) × ((end l w) .writer ≡ w)
 unfolding end
 end-refused l w e = as-refused (endNumber l w) l w _ _ e
+
+-- A read is done with the number 0, or gives back the state that was handed in.
+pub taken-done : (n : ℕ) (found : Found) (s : Coder) → (taken n found s) .done ≡ true → (taken n found s) .number ≡ 0
+unfolding taken
+taken-done zero found s e = refl
+taken-done (suc n) found s e = absurd (false≢true e)
+
+pub taken-refused : (n : ℕ) (found : Found) (s : Coder) → (taken n found s) .done ≡ false → (taken n found s) .state ≡ s
+unfolding taken
+taken-refused zero found s e = absurd (true≢false e)
+taken-refused (suc n) found s e = refl
 
 -- ---- the end
 

@@ -13,7 +13,7 @@ use Rattle.coder.specs.declared.interval.Span.{Span}
 use Rattle.coder.specs.declared.write.Writer.{Writer}
 use Rattle.coder_theorems.proofs.Calls.{end-refused}
 use Rattle.coder_theorems.specs.Runs.{AllKeep, Context, Held, Histograms, Step, afterStep, afterSteps, callEscape, callWrite, dynamic, escape, finish, lend, plain, put, static}
-use mathlib.Core.Bool.{Bool, true, false, _||_}
+use mathlib.Core.Bool.{Bool, true, false, _||_, true≢false}
 use mathlib.Core.List.{List, [], _∷_}
 use mathlib.Core.Path.{_≡_, _∙_, ap, refl, subst, sym}
 use lib.Pow.{pow-pos}
@@ -86,12 +86,12 @@ write-opened zero l w compresses spans on h = λ e. go (w .compressed) compresse
     go : (a b : Bool) → (a ≡ false → Whole (w .coder)) → (b ≡ false → Whole (w .coder) → Whole (afterSymbols (w .coder) spans))
         → (a || b) ≡ false → Whole (afterSymbols (w .coder) spans)
     go false false g f e = f refl (g refl)
-    go false true g f e = let z : _≡_ {A = ℕ} 0 1 = cc in absurd (omega arith)
-    go true b g f e = let z : _≡_ {A = ℕ} 0 1 = cc in absurd (omega arith)
+    go false true g f e = absurd (true≢false e)
+    go true b g f e = absurd (true≢false e)
 write-opened (suc n) l w compresses spans on h = h
 
 compressing : {A : Type 0} → true ≡ false → A
-compressing e = let z : _≡_ {A = ℕ} 0 1 = cc in absurd (omega arith)
+compressing e = absurd (true≢false e)
 
 call-opened : (l : List ℕ) (w : Writer) (hs : Histograms) (c : Context) (v : ℕ) → Opened w → Opened ((callWrite l w hs c v) .result .writer)
 unfolding callWrite writePlain writeStatic writeDynamic

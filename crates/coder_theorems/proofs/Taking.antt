@@ -66,24 +66,18 @@ later r h = record { long = r .long; limits = r .limits; few = omega (arith, r .
 
 module _ (len used more : ℕ) (small : len ≤ largestFile) (room : used + 16 * more ≤ 8 * len) (l : List ℕ) (w : Writer) (r : Ready len used l w) where
   -- so many symbols, where context and value are good
-  taken-number : (contextGood valueGood : Bool) (spans : List Span) → contextGood ≡ true → valueGood ≡ true → AllCodable spans
-      → length spans ≤ more → writeNumber l (w .coder) contextGood valueGood (afterSymbols (w .coder) spans) ≡ 0
-  taken-number contextGood valueGood spans context value codable few =
-      number-zero l (w .coder) (afterSymbols (w .coder) spans) contextGood valueGood (omega (arith, r .long)) (r .limits)
-      (omega (arith, r .long, r .few)) context value (omega (arith, r .long, r .few, symbols-few spans (w .coder) (r .limits) codable))
-
-  taken-ready : (n : ℕ) (compresses : Bool) (spans : List Span) → n ≡ 0 → AllCodable spans → length spans ≤ more
-      → (let c = write n l w compresses spans in (c .done ≡ true) × Ready len (used + 16 * more) (c .bytes) (c .writer))
+  taken : (contextGood valueGood compresses : Bool) (spans : List Span) → contextGood ≡ true → valueGood ≡ true → AllCodable spans
+      → length spans ≤ more
+      → (let n = writeNumber l (w .coder) contextGood valueGood (afterSymbols (w .coder) spans) in
+      let c = write n l w compresses spans in
+      (n ≡ 0) × (c .done ≡ true) × Ready len (used + 16 * more) (c .bytes) (c .writer))
   unfolding write
-  taken-ready n compresses spans e codable few =
-      rw e (
-        refl,
-        record {
-          long = length-store _ l _ ∙ r .long;
-          limits = all-wellformed spans (w .coder) (r .limits) codable;
-          few = omega (arith, r .few, symbols-few spans (w .coder) (r .limits) codable);
-        },
-      )
+  taken contextGood valueGood compresses spans context value codable few =
+      let grown = symbols-few spans (w .coder) (r .limits) codable in
+      let e = number-zero l (w .coder) (afterSymbols (w .coder) spans) contextGood valueGood (omega (arith, r .long)) (r .limits)
+      (omega (arith, r .long, r .few)) context value (omega (arith, r .long, r .few)) in
+      let limits = all-wellformed spans (w .coder) (r .limits) codable in
+      (e, rw e refl, rw e (record { long = length-store _ l _ ∙ r .long; limits = limits; few = omega (arith, r .few) }))
 
 -- a call is done, and leaves a writer and histograms of the same kind
 record Goes (len used count : ℕ) (call : WriteCall) : Type 0 where
@@ -97,25 +91,21 @@ call-goes : (len used : ℕ) (l : List ℕ) (w : Writer) (hs : Histograms) (c : 
     → Goes len (used + 16 * mostSymbols c) (length hs) (callWrite l w hs c v)
 unfolding callWrite dynamicNumber writeDynamic writePlain writeStatic writtenHistogram
 call-goes len used l w hs (plain n) v small r a t room =
-    let few : length (plainSpans n v) ≤ n = omega (arith, plain-length n v) in
-    let e = taken-number len used n small room l w r true (ltb v (256 ^ n)) (plainSpans n v) refl (lt-ltb _ _ t) (plain-codable n v) few in
-    let g = taken-ready len used n small room l w r _ false (plainSpans n v) e (plain-codable n v) few in
-    record { done = g .0; ready = g .1; formed = a; many = refl }
+    let g = taken len used n small room l w r true (ltb v (256 ^ n)) false (plainSpans n v) refl (lt-ltb _ _ t) (plain-codable n v)
+    (omega (arith, plain-length n v)) in
+    record { done = g .1; ready = g .2; formed = a; many = refl }
 call-goes len used l w hs (static range) v small r a t room =
-    let codable = range-codable range v t in
-    let few = static-length range v in
-    let e = taken-number len used 4 small room l w r true (ltb v range) (staticSpans range v) refl (lt-ltb _ _ t) codable few in
-    let g = taken-ready len used 4 small room l w r _ true (staticSpans range v) e codable few in
-    record { done = g .0; ready = g .1; formed = a; many = refl }
+    let g = taken len used 4 small room l w r true (ltb v range) true (staticSpans range v) refl (lt-ltb _ _ t) (range-codable range v t)
+    (static-length range v) in
+    record { done = g .1; ready = g .2; formed = a; many = refl }
 call-goes len used l w hs (dynamic k) v small r a t room =
     let h : Histogram = getD hs k [] in
     let formed = formed-at hs k a (t .0) in
-    let codable = dynamic-codable h v (histogram-true h formed) in
-    let few = dynamic-length h v in
-    let e = taken-number len used 5 small room l w r (histogramFormed h) (ltb v values) (dynamicSpans h v) formed (lt-ltb _ _ (t .1)) codable few in
-    let g = taken-ready len used 5 small room l w r _ true (dynamicSpans h v) e codable few in
-    let raised : histogramFormed (dynamicAfter h v) ≡ true = histogram-hold _ (written-raised h v (histogram-true h formed)) in
-    record { done = g .0; ready = g .1; formed = formed-set hs k _ a (rw e raised); many = simp length-set }
+    let well = histogram-true h formed in
+    let g = taken len used 5 small room l w r (histogramFormed h) (ltb v values) true (dynamicSpans h v) formed (lt-ltb _ _ (t .1)) (dynamic-codable h v well)
+    (dynamic-length h v) in
+    let raised : histogramFormed (dynamicAfter h v) ≡ true = histogram-hold _ (written-raised h v well) in
+    record { done = g .1; ready = g .2; formed = formed-set hs k _ a (rw (g .0) raised); many = simp length-set }
 
 -- ---- numbers one after the other
 

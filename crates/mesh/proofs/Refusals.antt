@@ -1,9 +1,8 @@
 -- The refusals of fields, names, runs of fields, declarations, heads and pools: each has one of a mesh's numbers.
 use Prim.Native.Nat.{ℕ, zero, suc, _+_, _*_}
-use mathlib.Core.Bool.{Bool, true, false, not}
+use mathlib.Core.Bool.{Bool, true, false, not, false≢true}
 use mathlib.Core.List.{List, [], _∷_}
 use mathlib.Core.Path.{_≡_, refl}
-use native.Mathlib.Omega.{arith}
 use lib.Dec.{ltb}
 use lib.ListN.{getD, length, replicate}
 use Rattle.fields.specs.Limits.{largestFile, longestName}
@@ -33,7 +32,7 @@ Numbered (refused k p) = Listed k
 
 -- It is not 0.
 pub listed-some : (k : ℕ) → Listed k → k ≡ 0 → ⊥
-listed-some k h e = let f : false ≡ true = rw e at h in let z : _≡_ {A = ℕ} 0 1 = cc in omega arith
+listed-some k h e = false≢true (rw e at h)
 
 -- What follows from a value.
 pub after : {A B : Type 0} (j : Judged A) (next : A → Judged B) → Numbered j → ((a : A) → j ≡ done a → Numbered (next a))

@@ -12,10 +12,10 @@ use lib.Seq.{drop-at, take-at}
 use Rattle.fields.specs.Judged.{Judged, done, refused, pick}
 use Rattle.fields.specs.Numbers.{noRoom, outOfRange}
 use Rattle.fields.proofs.Judging.{not-done, passed, same-done, value-before}
-use Rattle.coder.specs.Reading.{Taken, takeStatic, taken}
+use Rattle.coder.specs.Reading.{Taken, takeStatic}
 use Rattle.coder.specs.declared.interval.Coder.{Coder}
-use Rattle.coder.specs.declared.read.Found.{Found}
 use Rattle.coder_theorems.specs.Runs.{Histograms, callRead}
+use Rattle.coder_theorems.proofs.Calls.{taken-done}
 use Rattle.coder_theorems.proofs.States.{takeStatic-below}
 use Rattle.mesh.specs.Corners.{absent, cornerFields, faceWords, formOf, present, rangeOf, shadingContext}
 use Rattle.mesh.specs.Faces.{Coded, codedNumber, cornersFrom, faceFrom, facesFrom, facesOf, fieldFrom, placedAt, shadingFrom}
@@ -39,11 +39,6 @@ coded-done t c e = go (t .done) refl e
         → (t .done ≡ true) × (t .value ≡ c .value)
     go true q h = (q, ap (λ (x : Coded ℕ). x .value) (same-done h))
     go false q h = not-done h
-
-taken-done : (n : ℕ) (found : Found) (s : Coder) → (taken n found s) .done ≡ true → (taken n found s) .number ≡ 0
-unfolding taken
-taken-done zero found s e = refl
-taken-done (suc n) found s e = let z : false ≡ true = e in let y : _≡_ {A = ℕ} 0 1 = cc in absurd (omega arith)
 
 static-done : (range : ℕ) (d : List ℕ) (s : Coder) → (takeStatic true range d s) .done ≡ true → (takeStatic true range d s) .value < range
 unfolding takeStatic

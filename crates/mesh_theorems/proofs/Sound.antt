@@ -1,7 +1,7 @@
 -- Coded faces are refused with 1 or 10 only, and a mesh with one of its numbers: a reader that begins fresh goes from states that it takes to
 -- states that it takes, as long as its bits can be counted, and a face has few bits.
 use Prim.Native.Nat.{ℕ, zero, suc, _+_, _*_, _%_, _^_, _≤_, _<_}
-use mathlib.Core.Bool.{Bool, true, false, not}
+use mathlib.Core.Bool.{Bool, true, false, not, false≢true}
 use mathlib.Core.List.{List, [], _∷_}
 use mathlib.Core.Path.{_≡_, refl}
 use native.Mathlib.Omega.{arith}
@@ -153,7 +153,7 @@ face-listed k e = go (eqb k truncated) (eqb k outOfRange) refl refl e
     go : (a b : Bool) → eqb k truncated ≡ a → eqb k outOfRange ≡ b → pick a true (pick b true false) ≡ true → Listed k
     go true b f g e = let one : k ≡ truncated = eqb-true _ _ f in rw one
     go false true f g e = let ten : k ≡ outOfRange = eqb-true _ _ g in rw ten
-    go false false f g e = let z : _≡_ {A = ℕ} 0 1 = cc in absurd (omega arith)
+    go false false f g e = absurd (false≢true e)
 
 placed-numbered : (place : ℕ) (j : Judged (List ℕ)) → ((k p : ℕ) → j ≡ refused k p → Listed k) → Numbered (placedAt place j)
 placed-numbered place (done a) f = tt

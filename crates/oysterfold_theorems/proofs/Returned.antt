@@ -20,10 +20,9 @@ use Rattle.coder.specs.Values.{nextSymbol, readAfter, readDynamic, symbolAfter}
 use Rattle.coder.specs.Writing.{Write, dynamicNumber, end, freshWriter, kept, write, writeDynamic, writtenHistogram}
 use Rattle.coder.specs.declared.interval.Coder.{Coder}
 use Rattle.coder.specs.declared.interval.Span.{Span}
-use Rattle.coder.specs.declared.read.Found.{Found}
 use Rattle.coder.specs.declared.write.Writer.{Writer}
 use Rattle.coder_theorems.specs.Runs.{Context, Histograms, callRead, callWrite, dynamic, plain, static}
-use Rattle.coder_theorems.proofs.Calls.{call-done, call-refused, end-done, end-refused}
+use Rattle.coder_theorems.proofs.Calls.{call-done, call-refused, end-done, end-refused, taken-done, taken-refused}
 use Rattle.coder_theorems.proofs.States.{end-formed, takeDynamic-handed, takePlain-handed, takeStatic-handed, writeDynamic-formed, writePlain-formed, writeStatic-formed}
 use Rattle.oysterfold.specs.CoderState.{coderIn, coderLength, coderWords, flagOf, histogramInto, lowIn, noLimit, writerIn, writerLength, writerWords}
 use Rattle.oysterfold.specs.Fresh.{storedInto}
@@ -85,16 +84,6 @@ module _ (state : List ℕ) (long : writerLength ≤ length state) where
       carried (endWrite (end buffer w)) (λ e. writer-true _ (length buffer) (end-formed buffer w (end-done buffer w e)) .0) (λ e. end-refused buffer w e .1)
 
 -- ---- a reader's calls
-
-taken-done : (n : ℕ) (found : Found) (s : Coder) → (taken n found s) .done ≡ true → (taken n found s) .number ≡ 0
-unfolding taken
-taken-done zero found s e = refl
-taken-done (suc n) found s e = let z : _≡_ {A = ℕ} 0 1 = cc in absurd (omega arith)
-
-taken-refused : (n : ℕ) (found : Found) (s : Coder) → (taken n found s) .done ≡ false → (taken n found s) .state ≡ s
-unfolding taken
-taken-refused zero found s e = let z : _≡_ {A = ℕ} 0 1 = cc in absurd (omega arith)
-taken-refused (suc n) found s e = refl
 
 read-formed : (d : List ℕ) (s : Coder) (hs : Histograms) (c : Context)
     → (let t = callRead d s hs c .result in t .done ≡ true → WellFormed (t .state))
