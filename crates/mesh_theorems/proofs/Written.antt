@@ -1,4 +1,4 @@
--- Every mesh within the limits can be written so that it is read back: the coder's writer takes the numbers of its faces in a buffer that is long
+-- Every mesh within the limits has bytes from which it is read back: the coder's writer takes the numbers of its faces in a buffer that is long
 -- enough, and the whole is not too large.
 use Prim.Native.Nat.{ℕ, _+_, _*_, _≤_}
 use mathlib.Core.Bool.{true}

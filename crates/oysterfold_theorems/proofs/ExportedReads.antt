@@ -2,24 +2,22 @@
 use Prim.Native.Nat.{ℕ, _≤_}
 use mathlib.Core.Bool.{Bool, true, false}
 use mathlib.Core.List.{List, [], _∷_, map}
-use mathlib.Core.Path.{_≡_, _∙_, ap, refl, sym}
+use mathlib.Core.Path.{_≡_, _∙_, refl}
 use native.Mathlib.Omega.{arith}
 use borrow.Author.Tests.{le-ltb}
 use lib.Dec.{ltb}
-use lib.ListN.{List·getD-map, getD, length, length-set, set, take}
+use lib.ListN.{getD, length, length-set}
 use lib.Seq.{length-sets, sets}
 use Rattle.fields.specs.Judged.{pick}
 use Rattle.fields.specs.Numbers.{noRoom}
-use Rattle.coder.specs.Histogram.{Histogram, symbols}
-use Rattle.coder.specs.Reading.{Taken, takenHistogram}
+use Rattle.coder.specs.Reading.{Taken}
 use Rattle.coder_theorems.specs.Runs.{Context, ReadCall, callRead, dynamic, plain, readCalls, static}
-use Rattle.coder_theorems.proofs.Inner.{map-set}
-use Rattle.oysterfold.specs.CoderState.{coderIn, coderLength, coderWords, histogramInto}
+use Rattle.oysterfold.specs.CoderState.{coderIn, coderLength, coderWords}
 use Rattle.oysterfold.specs.Reading as reading
 use Rattle.oysterfold.specs.Result.{resultWords, valueTold}
 use Rattle.oysterfold_theorems.specs.ExportedRuns.{AllHaveExports, AllLong, HasExport, ReadAnswer, ReaderLongEnough, callReport, exportedRead, exportedReads, frequenciesIn, readBy, readReport}
 use Rattle.oysterfold_theorems.proofs.Returned.{read-carried, taken-carried}
-use Rattle.oysterfold_theorems.proofs.ExportedRuns.{into-long, long-at, long-set, value-told}
+use Rattle.oysterfold_theorems.proofs.ExportedRuns.{frequencies-at, frequencies-set, into-long, long-at, long-set, value-told}
 
 -- an exported read answers as the coder's does, and leaves in the arrays what that leaves
 record ReadCarried (r : ReadAnswer) (c : ReadCall) : Type 0 where
@@ -44,10 +42,8 @@ module _ (result : List ℕ) (h : resultWords ≤ length result) (d state : List
   reading-carried (dynamic k) l x =
       let g : List ℕ = getD histograms k [] in
       let many = long-at histograms k l x in
-      let after = takenHistogram (take symbols g) d (coderIn state) in
-      let there : getD (frequenciesIn histograms) k [] ≡ take symbols g = List·getD-map (take symbols) histograms k [] in
-      let stored : frequenciesIn (set histograms k (histogramInto false after g)) ≡ set (frequenciesIn histograms) k after
-      = sym (map-set (take symbols) histograms k _) ∙ ap (λ (f : Histogram). set (frequenciesIn histograms) k f) (taken-carried g many d (coderIn state)) in
+      let there = frequencies-at histograms k in
+      let stored = frequencies-set histograms k _ _ (taken-carried g many d (coderIn state)) in
       rw (le-ltb _ _ h, le-ltb _ _ long, le-ltb _ _ many, there)
       (read-by _ _ (rw there at (read-carried state d result (frequenciesIn histograms) (dynamic k) long)) stored)
 

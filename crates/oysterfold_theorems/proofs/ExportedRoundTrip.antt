@@ -35,7 +35,7 @@ taken-exports count (escape k v ∷ steps) h x = absurd (x .0)
 taken-exports count (lend buffer ∷ steps) h x = taken-exports count steps (afterStep h (lend buffer)) (x .1)
 taken-exports count (finish ∷ steps) h x = taken-exports count steps (afterStep h finish) (x .1)
 
--- what is report of a number that is read back
+-- what is told of a number that is read back
 told-back : (took : List Called) → map callReport (map readBack took) ≡ map writtenReport took
 told-back [] = refl
 told-back (c ∷ took) = ap (λ (l : List Report). writtenReport c ∷ l) (told-back took)

@@ -9,7 +9,7 @@ use lib.Seq.{length-sets, sets, sets-eq}
 use lib.ListN.{List·getD-map, getD, length, length-set, set, take}
 use Rattle.fields.specs.Judged.{pick}
 use Rattle.coder.specs.Histogram.{Histogram, symbols}
-use Rattle.coder.specs.Writing.{Write, end, writtenHistogram}
+use Rattle.coder.specs.Writing.{Write, end}
 use Rattle.coder_theorems.specs.Runs.{Context, Held, Step, WriteCall, afterStep, afterSteps, callWrite, dynamic, escape, finish, heldAfter, lend, plain, put, static, writeCalls}
 use Rattle.coder_theorems.proofs.Inner.{map-set}
 use Rattle.oysterfold.specs.CoderState.{histogramInto, writerIn, writerLength, writerWords}
@@ -18,9 +18,18 @@ use Rattle.oysterfold.specs.Writing.{handedBy, usedInto, writeBytes, writtenInt
 use Rattle.oysterfold_theorems.specs.ExportedRuns.{AllExported, AllLong, WriteAnswer, Arrays, HasExport, LongEnough, answerBy, exportedEnd, exportedNumbers, exportedPut, exportedStep, exportedSteps, exportedUsed, frequenciesIn, heldIn, numberAnswered}
 use Rattle.oysterfold_theorems.proofs.Returned.{end-carried, write-carried, written-carried}
 
--- a value that is report in a result
+-- a value that is told in a result
 pub value-told : (value : ℕ) (result : List ℕ) → resultWords ≤ length result → getD (valueTold value result) 1 0 ≡ value
 value-told value result h = rw (sets-eq (0 ∷ value ∷ []) result 0 h) refl
+
+-- the frequencies of one array, and after it was changed
+pub frequencies-at : (histograms : List (List ℕ)) (k : ℕ) → getD (frequenciesIn histograms) k [] ≡ take symbols (getD histograms k [])
+frequencies-at histograms k = List·getD-map (take symbols) histograms k []
+
+pub frequencies-set : (histograms : List (List ℕ)) (k : ℕ) (array : List ℕ) (h : Histogram) → take symbols array ≡ h
+    → frequenciesIn (set histograms k array) ≡ set (frequenciesIn histograms) k h
+frequencies-set histograms k array h e =
+    sym (map-set (take symbols) histograms k array) ∙ ap (λ (f : Histogram). set (frequenciesIn histograms) k f) e
 
 -- ---- a call
 
@@ -74,11 +83,8 @@ module _ (a : Arrays) (long : writerLength ≤ length (a .state)) where
   put-carried (dynamic k) v l h =
       let many = long-at (a .histograms) k l h in
       let g : List ℕ = getD (a .histograms) k [] in
-      let after = writtenHistogram (take symbols g) (a .buffer) (writerIn (a .state)) v in
-      let there : getD (frequenciesIn (a .histograms)) k [] ≡ take symbols g = List·getD-map (take symbols) (a .histograms) k [] in
-      let stored : frequenciesIn (set (a .histograms) k (histogramInto false after g)) ≡ set (frequenciesIn (a .histograms)) k after
-      = sym (map-set (take symbols) (a .histograms) k _)
-      ∙ ap (λ (f : Histogram). set (frequenciesIn (a .histograms)) k f) (written-carried g many (a .buffer) (writerIn (a .state)) v) in
+      let there = frequencies-at (a .histograms) k in
+      let stored = frequencies-set (a .histograms) k _ _ (written-carried g many (a .buffer) (writerIn (a .state)) v) in
       rw (le-ltb _ _ long, le-ltb _ _ many, there)
       (carried-by (a .state) _ _ (rw there at (write-carried (a .state) long (a .buffer) (frequenciesIn (a .histograms)) (dynamic k) v)) stored)
 

@@ -151,7 +151,7 @@ unfoldable pub AllExported : ℕ → List Step → Type 0
 AllExported count [] = Unit {0}
 AllExported count (step ∷ steps) = StepExported count step × AllExported count steps
 
--- ---- what is report
+-- ---- what is told
 
 -- the answer to a call for a number, its value, and the frequencies after it
 pub record Report : Type 0 where
