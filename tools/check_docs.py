@@ -1,7 +1,8 @@
 """Says where docs/PROMISES.md and docs/TRACE.md do not fit the crates; exit status 1 if anywhere.
 
-To be run from the repository's root. Every public function has its row among the promises, every must-fail edit is
-named there under its crate, and what the two documents name exists.
+To be run from the repository's root. Every public function has its row among the promises, which names an edit; every edit is named there
+under its crate, as kept where the gate tries it (must-fail/) and as tried where tools/try_edits does (tried/); every crate has an edit that
+the gate tries; and what the two documents name exists.
 """
 
 import re
@@ -12,10 +13,13 @@ CRATES = Path("crates")
 PROMISES = Path("docs/PROMISES.md")
 TRACE = Path("docs/TRACE.md")
 
+# The folder of an edit, by what the promises call it.
+FOLDERS = {"kept": "must-fail", "tried": "tried"}
+
 PUBLIC_FUNCTION = re.compile(r'^\s*pub (?:extern "C" )?fn (\w+)', re.MULTILINE)
 PUBLIC_MODULE = re.compile(r"^pub mod (\w+);", re.MULTILINE)
 NAME = re.compile(r"`([^`]+)`")
-KEPT = re.compile(r"\(([^()]*\bkept\b[^()]*)\)")
+EDITS = re.compile(r"\(((?:`\w+`, )+)(kept|tried)\b")
 
 
 def public_functions(crate):
@@ -30,35 +34,46 @@ def public_functions(crate):
 
 
 def edits(crate):
-    return {path.stem for path in (crate / "must-fail").glob("*.edit")}
+    """The edits of a crate, each with what the promises are to call it."""
+    return {(path.stem, how) for how, folder in FOLDERS.items() for path in (crate / folder).glob("*.edit")}
 
 
 def sections(text):
-    """The text under each heading of the second level, by the heading."""
+    """The rows under each heading of the second level, by crate; where a heading has several crates, those that begin with its name."""
     parts = re.split(r"^## (.+)$", text, flags=re.MULTILINE)
-    return dict(zip(parts[1::2], parts[2::2]))
+    found = {}
+    for heading, section in zip(parts[1::2], parts[2::2]):
+        rows = [line for line in section.splitlines() if line.startswith("| `")]
+        crates = heading.split(", ")
+        for crate in crates:
+            found[crate] = [row for row in rows if len(crates) == 1 or row.startswith("| `%s` |" % crate)]
+    return found
 
 
-def promised(section):
-    """The names in the first column of a section's rows."""
-    columns = [line.split("|")[1] for line in section.splitlines() if line.startswith("| `")]
-    return {name.split("::")[-1] for column in columns for name in NAME.findall(column)}
+def promised(row):
+    """The names in a row's first column."""
+    return {name.split("::")[-1] for name in NAME.findall(row.split("|")[1])}
 
 
-def kept(section):
-    return {name for words in KEPT.findall(section) for name in NAME.findall(words)}
+def named(row):
+    """The edits that a row names, each with what it is called."""
+    return {(name, how) for names, how in EDITS.findall(row) for name in NAME.findall(names)}
 
 
 def judge_promises():
     promises = sections(PROMISES.read_text())
     for crate in sorted(path for path in CRATES.iterdir() if path.is_dir()):
-        section = promises.get(crate.name, "")
-        for name in sorted(public_functions(crate) - promised(section)):
-            yield "%s: no row for the function %s of %s" % (PROMISES, name, crate.name)
-        for name in sorted(edits(crate) - kept(section)):
-            yield "%s: the edit %s of %s is not named" % (PROMISES, name, crate.name)
-        for name in sorted(kept(section) - edits(crate)):
-            yield "%s: %s has no edit %s" % (PROMISES, crate.name, name)
+        rows = promises.get(crate.name, [])
+        for name in sorted(public_functions(crate)):
+            if not any(named(row) for row in rows if name in promised(row)):
+                yield "%s: no row with an edit for the function %s of %s" % (PROMISES, name, crate.name)
+        told = {edit for row in rows for edit in named(row)}
+        for name, how in sorted(edits(crate) - told):
+            yield "%s: the edit %s of %s is not named as %s" % (PROMISES, name, crate.name, how)
+        for name, how in sorted(told - edits(crate)):
+            yield "%s: %s has no edit %s in %s/" % (PROMISES, crate.name, name, FOLDERS[how])
+        if not any(how == "kept" for _, how in edits(crate)):
+            yield "%s has no edit that the gate tries" % crate
 
 
 def words_of(paths):
@@ -74,7 +89,7 @@ def judge_trace():
     sources = [path for path in CRATES.rglob("*") if path.suffix in (".rt", ".antt")]
     known = words_of(sources)
     known.update(path.name for path in CRATES.iterdir())
-    known.update(name for path in CRATES.iterdir() for name in edits(path))
+    known.update(name for path in CRATES.iterdir() for name, _ in edits(path))
     files = [path.name for path in CRATES.glob("*/data/*")]
     for name in NAME.findall(TRACE.read_text()):
         if name in known or name.split("::")[-1] in known or "/" in name or name.startswith(".."):
