@@ -2,7 +2,7 @@
 
 To be run from the repository's root. Every public function has its row among the promises, which names an edit; every edit is named there
 under its crate, as kept where the gate tries it (must-fail/) and as tried where tools/try_edits does (tried/); every crate has an edit that
-the gate tries; and what the two documents name exists.
+the gate tries; and what the two documents name exists, an edit that the trace cites with a crate in that crate.
 """
 
 import re
@@ -99,8 +99,20 @@ def judge_trace():
             yield "%s: nothing is called %s" % (TRACE, name)
 
 
+def judge_citations():
+    """In the last column of the trace, edits stand after the name of their crate."""
+    names = {crate.name: {name for name, _ in edits(crate)} for crate in CRATES.iterdir()}
+    rows = [line for line in TRACE.read_text().splitlines() if line.startswith("| ")]
+    for part in (part for row in rows for part in row.rstrip(" |").split(" | ")[-1].split("; ")):
+        crate, *cited = NAME.findall(part) or [""]
+        if part.startswith("`%s`" % crate) and crate in names:
+            for name in cited:
+                if name not in names[crate]:
+                    yield "%s: %s has no edit %s" % (TRACE, crate, name)
+
+
 def main():
-    faults = [*judge_promises(), *judge_trace()]
+    faults = [*judge_promises(), *judge_trace(), *judge_citations()]
     for fault in faults:
         print(fault, file=sys.stderr)
     sys.exit(1 if faults else 0)
