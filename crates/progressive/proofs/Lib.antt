@@ -7,3 +7,4 @@ pub mod Corners
 pub mod Allowing
 pub mod Laying
 pub mod Judgements
+pub mod Walking

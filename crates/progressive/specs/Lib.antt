@@ -4,4 +4,5 @@ pub mod Mesh
 pub mod Rules
 pub mod Laying
 pub mod Steps
+pub mod Requests
 pub mod Inside

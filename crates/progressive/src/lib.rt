@@ -4,6 +4,7 @@ pub mod form;
 pub mod lay;
 pub mod levels;
 pub mod refine;
+pub mod requests;
 pub mod rules;
 pub mod show;
 pub mod words;

@@ -1,0 +1,127 @@
+// Many steps in one call (02, Ask 6): a walk takes wishes in turn and stops at the first refusal; the steps granted before it stay.
+use crate::counts::Counts;
+use crate::counts::Stepped;
+use crate::refine::coarsen;
+use crate::refine::refine;
+use fields::limits::MOST_STEPS;
+use fields::numbers::OVER_LIMIT;
+ghost use mathlib.Core.Path.{_≡_};
+ghost use mathlib.Core.Bool.{_&&_};
+ghost use mathlib.Core.List.{[], _∷_};
+ghost use lib.Dec.{leb};
+ghost use Rattle.fields.specs.Limits.{mostSteps};
+ghost use Rattle.progressive.specs.Mesh.{meshOf};
+ghost use Rattle.progressive.specs.Steps.{reply, replyOf};
+ghost use Rattle.progressive.specs.Requests.{askIn, askedOn, asksOf, progressOf, walkedOn};
+
+// A wish: steps up (direction 0) or down (1), and how many.
+#[repr(C)]
+pub struct StepRequest {
+    pub direction: u32,
+    pub count: u32,
+}
+
+// What a walk has come to: the number of its refusal, or 0; the steps granted, modulo 2^64; the present counts.
+pub struct Progress {
+    pub number: u32,
+    pub granted: u64,
+    pub positions: u32,
+    pub faces: u32,
+}
+
+// One step up where the direction is 0, else down.
+fn step_in(
+    direction: u32,
+    steps: &[u32],
+    shadings: u32,
+    faces: &mut [u32],
+    positions: &mut [u32],
+    counts: Counts,
+) -> Stepped
+    ensures { λ v. ⌜ replyOf v (now (faces .exit)) (now (positions .exit))
+        ≡ reply (askedOn (now (steps .entry)) shadings (meshOf (now (faces .entry)) (now (positions .entry)) counts) (askIn direction))
+        (meshOf (now (faces .entry)) (now (positions .entry)) counts) ⌝ }
+{
+    if direction == 0 {
+        return refine(steps, shadings, faces, positions, counts);
+    }
+    coarsen(steps, shadings, faces, positions, counts)
+}
+
+// One step more of a walk that was not refused.
+fn step_on(
+    direction: u32,
+    steps: &[u32],
+    shadings: u32,
+    faces: &mut [u32],
+    positions: &mut [u32],
+    progress: Progress,
+) -> Progress
+    ensures { λ r. ⌜ progressOf r (now (faces .exit)) (now (positions .exit))
+        ≡ walkedOn (now (steps .entry)) shadings (askIn direction ∷ []) (progressOf progress (now (faces .entry)) (now (positions .entry))) ⌝ }
+{
+    if progress.number != 0 {
+        return progress;
+    }
+    let counts = Counts {
+        positions: progress.positions,
+        faces: progress.faces,
+    };
+    match step_in(direction, steps, shadings, faces, positions, counts) {
+        Stepped::Done(made) => Progress {
+            number: 0,
+            granted: std::num::wrapping_add_u64(progress.granted, 1),
+            positions: made.positions,
+            faces: made.faces,
+        },
+        Stepped::Refused(refusal, kept) => Progress {
+            number: refusal.number,
+            granted: progress.granted,
+            positions: kept.positions,
+            faces: kept.faces,
+        },
+    }
+}
+
+// A wish that is up or down, and at most 4,096.
+fn request_formed(direction: u32, count: u32) -> bool
+    ensures { λ r. ⌜ r ≡ (leb count mostSteps && leb direction 1) ⌝ }
+{
+    if MOST_STEPS < count {
+        return false;
+    }
+    direction <= 1
+}
+
+// One wish of a walk that was not refused: 9 if it is above 4,096 or neither up nor down; else its steps, to the first refusal.
+pub fn take_request(
+    direction: u32,
+    count: u32,
+    steps: &[u32],
+    shadings: u32,
+    faces: &mut [u32],
+    positions: &mut [u32],
+    start: Progress,
+) -> Progress
+    ensures { λ r. ⌜ progressOf r (now (faces .exit)) (now (positions .exit))
+        ≡ walkedOn (now (steps .entry)) shadings (asksOf direction count) (progressOf start (now (faces .entry)) (now (positions .entry))) ⌝ }
+{
+    if start.number != 0 {
+        return start;
+    }
+    if !request_formed(direction, count) {
+        return Progress {
+            number: OVER_LIMIT,
+            granted: start.granted,
+            positions: start.positions,
+            faces: start.faces,
+        };
+    }
+    let mut progress = start;
+    let mut left = count;
+    while 0 < left {
+        progress = step_on(direction, steps, shadings, faces, positions, progress);
+        left -= 1;
+    }
+    progress
+}
