@@ -12,7 +12,7 @@ ghost use lib.Dec.{leb};
 ghost use Rattle.fields.specs.Limits.{mostSteps};
 ghost use Rattle.progressive.specs.Mesh.{meshOf};
 ghost use Rattle.progressive.specs.Steps.{reply, replyOf};
-ghost use Rattle.progressive.specs.Requests.{askIn, askedOn, asksOf, progressOf, walkedOn};
+ghost use Rattle.progressive.specs.Requests.{askIn, askedOn, asks, asksOf, progressOf, walkedOn};
 
 // A wish: steps up (direction 0) or down (1), and how many.
 #[repr(C)]
@@ -122,6 +122,37 @@ pub fn take_request(
     while 0 < left {
         progress = step_on(direction, steps, shadings, faces, positions, progress);
         left -= 1;
+    }
+    progress
+}
+
+// Every wish in turn, to the first refusal.
+pub fn step_all(
+    requests: &[StepRequest],
+    steps: &[u32],
+    shadings: u32,
+    faces: &mut [u32],
+    positions: &mut [u32],
+    start: Progress,
+) -> Progress
+    ensures { λ r. ⌜ progressOf r (now (faces .exit)) (now (positions .exit))
+        ≡ walkedOn (now (steps .entry)) shadings (asks (now (requests .entry))) (progressOf start (now (faces .entry)) (now (positions .entry))) ⌝ }
+{
+    let mut progress = start;
+    let mut i: usize = 0;
+    while i < requests.len() {
+        let direction = requests[i].direction;
+        let count = requests[i].count;
+        progress = take_request(
+            direction,
+            count,
+            steps,
+            shadings,
+            faces,
+            positions,
+            progress,
+        );
+        i = i + 1;
     }
     progress
 }
