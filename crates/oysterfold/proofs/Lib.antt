@@ -3,6 +3,7 @@ pub mod Words
 pub mod Results
 pub mod Answers
 pub mod Stepping
+pub mod WalkAnswers
 pub mod Whole
 pub mod Declared
 pub mod WriteAnswers

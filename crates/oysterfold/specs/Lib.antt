@@ -2,6 +2,7 @@ pub mod Result
 pub mod Declaration
 pub mod Mesh
 pub mod Steps
+pub mod Requests
 pub mod CoderState
 pub mod Fresh
 pub mod Writing

@@ -7,6 +7,7 @@ pub mod histograms;
 pub mod listings;
 pub mod meshes;
 pub mod reading;
+pub mod requests;
 mod result;
 pub mod steps;
 pub mod walk;

@@ -11,7 +11,7 @@ ghost use Rattle.progressive.specs.Steps.{coarsened, refined};
 ghost use Rattle.oysterfold.specs.Steps.{countWords, countsAfter, countsIn, handed, handedBy, steppedNumber, stepInto};
 
 // Positions, then faces.
-const COUNT_WORDS: usize = 2;
+pub(crate) const COUNT_WORDS: usize = 2;
 
 fn counts_in(counts: &[u32]) -> Counts
     requires { ⌜ countWords ≤ length (now counts) ⌝ }
