@@ -83,6 +83,13 @@ module _ (t : List ℕ) (e : wellFormed t ≡ true) where
   faces-within zero h = omega (arith, formed-table t e .faces)
   faces-within (suc k) h = omega (arith, faces-within k (omega arith), step-of k h .faces)
 
+  -- a step has at most so many words
+  pub offset-short : (k : ℕ) → k ≤ stepCount t
+      → stepOffset t k ≤ headWords + (stepWords + moveWords * mostMoves + newFaceWords * mostNewFaces) * k
+  unfolding stepOffset
+  offset-short zero h = omega arith
+  offset-short (suc k) h = omega (arith, offset-short k (omega arith), step-of k h .moves, step-of k h .faces)
+
 pub formed-at : (t : List ℕ) (k : ℕ) → wellFormed t ≡ true → k < stepCount t → stepFormed t (stepOffset t k) ≡ true
 formed-at t k e h = all-at (stepFormedAt t) (stepCount t) k (formed-table t e .steps) h
 

@@ -3,6 +3,7 @@ pub mod Indexed
 pub mod Formed
 pub mod Rooms
 pub mod Reaching
+pub mod Marking
 pub mod Corners
 pub mod Allowing
 pub mod Laying

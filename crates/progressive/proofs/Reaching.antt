@@ -1,4 +1,4 @@
--- The walk to a level, and what the present counts tell of it: a loop's turn is a clause of `stepOffset` and `facesBefore`.
+-- The walk to a level, and what the present counts tell of it: a step's turn is a clause of `stepOffset` and `facesBefore`.
 use mathlib.Core.Path.{_≡_, refl, sym, ap, _∙_}
 use mathlib.Core.Bool.{Bool, true, false, not}
 use mathlib.Core.List.{List}
@@ -7,53 +7,58 @@ use native.Mathlib.Numerals.{add-one}
 use native.Mathlib.Omega.{arith}
 use borrow.Author.Tests.{eq-eqb, eqb-true, le-leb, leb-true, not-false}
 use lib.ListN.{length}
-use Rattle.fields.specs.Limits.{largestCount, mostNewFaces, mostSteps}
+use Rattle.fields.specs.Limits.{largestCount, mostMoves, mostNewFaces, mostSteps}
 use Rattle.fields.specs.Numbers.{badSteps, countsDisagree}
 use Rattle.fields.specs.Judged.{done, refused}
 use Rattle.fields.proofs.Judging.{passed, same-done, value-before}
 use Rattle.progressive.specs.declared.levels.Place.{Place}
+use Rattle.progressive.specs.declared.levels.Reached.{Reached}
 use Rattle.progressive.specs.declared.levels.Walked.{Walked}
-use Rattle.progressive.specs.StepTable.{baseFaces, basePositions, facesBefore, headWords, newFaceCount, nextStep, stepCount, stepFormed, stepOffset, wellFormed}
+use Rattle.progressive.specs.StepTable.{baseFaces, basePositions, facesBefore, headWords, moveWords, newFaceCount, newFaceWords, nextStep, stepCount, stepFormed, stepOffset, stepWords, wellFormed}
 use Rattle.progressive.specs.Steps.{countsAgree, levelOf}
-use Rattle.progressive.specs.Inside.{Arrived, placeAt, placeOf}
+use Rattle.progressive.specs.Inside.{Arrived, AtStep, placeAt, placeOf}
 use Rattle.progressive.proofs.Indexed.{and-left, and-right}
-use Rattle.progressive.proofs.Formed.{FormedTable, faces-within, formed-at, formed-table, offset-within, test-failed}
+use Rattle.progressive.proofs.Formed.{FormedTable, faces-within, formed-at, formed-table, offset-short, offset-within, test-failed}
 
--- the walk to level k of a formed table: at level j, between the steps at `last` and at `next`, with so many faces
-pub record Placed (t : List ℕ) (k next last faces j : ℕ) : Type 0 where
-  pub so-far : j ≤ k
-  pub next-at : next ≡ stepOffset t j
-  pub last-at : last ≡ stepOffset t (j - 1)
-  pub count : faces ≡ facesBefore t j
-  pub within : next ≤ length t
-  pub small : faces ≤ largestCount + mostNewFaces * mostSteps
+-- ---- from step to step
 
-module _ (t : List ℕ) (k : ℕ) (e : wellFormed t ≡ true) (h : k ≤ stepCount t) where
-  placed : {next last faces j : ℕ} → j ≤ k → next ≡ stepOffset t j → last ≡ stepOffset t (j - 1) → faces ≡ facesBefore t j → Placed t k next last faces j
-  placed {next} {last} {faces} {j} l s d f = record {
-    so-far = l;
-    next-at = s;
-    last-at = d;
-    count = f;
-    within = omega (arith, offset-within t e j (omega arith));
-    small = omega (arith, faces-within t e j (omega arith), formed-table t e .count);
-  }
+pub step-first : (t : List ℕ) {f : ℕ} → f ≡ baseFaces t → AtStep t 0 (record { offset = headWords; faces = f })
+unfolding stepOffset facesBefore
+step-first t e = record { offset = refl; faces = e }
 
-  pub place-starts : {faces : ℕ} → faces ≡ baseFaces t → Placed t k headWords headWords faces 0
-  unfolding stepOffset facesBefore
-  place-starts f = placed (omega arith) refl refl f
+pub step-next : (t : List ℕ) (k : ℕ) {at : Reached} {after new : ℕ} → AtStep t k at
+    → after ≡ nextStep t (at .offset) → new ≡ newFaceCount t (at .offset) → AtStep t (k + 1) (record { offset = after; faces = at .faces + new })
+unfolding stepOffset facesBefore
+step-next t k {at} s e n = rw add-one (record { offset = e ∙ ap (nextStep t) (s .offset); faces = rw (n, s .offset, s .faces) })
 
-  pub place-on : {next last faces new after j : ℕ} → Placed t k next last faces j → j < k → new ≡ newFaceCount t next → after ≡ nextStep t next
-      → Placed t k after next (faces + new) (j + 1)
-  unfolding stepOffset facesBefore
-  place-on {next} {last} {faces} {new} {after} {j} p l n s =
-      let back : suc j - 1 ≡ j = omega arith in
-      rw add-one (placed l (s ∙ ap (nextStep t) (p .next-at)) (rw back (p .next-at)) (rw (n, p .next-at, p .count)))
+-- what a formed table tells of a step of it
+pub record Within (t : List ℕ) (at : Reached) : Type 0 where
+  pub offset : at .offset ≤ length t
+  pub short : at .offset ≤ headWords + (stepWords + moveWords * mostMoves + newFaceWords * mostNewFaces) * mostSteps
+  pub few : at .faces ≤ largestCount + mostNewFaces * mostSteps
 
-pub place-ends : (t : List ℕ) (k : ℕ) {next last faces j : ℕ} → Placed t k next last faces j → k ≤ j → Arrived t k (record { next = next; last = last; faces = faces })
-place-ends t k {next} {last} {faces} {j} p h =
-    let q : j ≡ k = omega arith in
-    rw (← q) (record { next-at = p .next-at; last-at = p .last-at; count = p .count })
+pub within : (t : List ℕ) (k : ℕ) {at : Reached} → wellFormed t ≡ true → k ≤ stepCount t → AtStep t k at → Within t at
+within t k e h s =
+    let table : FormedTable t = formed-table t e in
+    record {
+      offset = rw (s .offset) (offset-within t e k h);
+      short = omega (arith, s .offset, offset-short t e k h, table .count);
+      few = omega (arith, s .faces, faces-within t e k h, table .count);
+    }
+
+-- ---- the level of the present counts
+
+-- the step before level k, and level k after it
+pub arrived : (t : List ℕ) (k : ℕ) {last next : Reached} → (k ≡ 0 → ⊥) → AtStep t (k - 1) last → AtStep t (k - 1 + 1) next
+    → Arrived t k (record { next = next .offset; last = last .offset; faces = next .faces })
+arrived t k h l n =
+    let q : k - 1 + 1 ≡ k = omega arith in
+    record { next-at = rw q at (n .offset); last-at = l .offset; count = rw q at (n .faces) }
+
+-- no step is before level 0
+pub arrived-base : (t : List ℕ) (k : ℕ) {at : Reached} → k ≡ 0 → AtStep t 0 at
+    → Arrived t k (record { next = at .offset; last = at .offset; faces = at .faces })
+arrived-base t k e s = rw e (record { next-at = s .offset; last-at = s .offset; count = s .faces })
 
 pub record Agreeing (t : List ℕ) (f p : ℕ) : Type 0 where
   pub from-base : basePositions t ≤ p

@@ -1,22 +1,49 @@
 -- Inside the crate: what its private functions require and promise. No public promise cites this file.
-use mathlib.Core.Bool.{true}
+use mathlib.Core.Bool.{Bool, true}
 use mathlib.Core.Path.{_≡_}
 use mathlib.Core.List.{List}
-use Prim.Native.Nat.{ℕ, _+_, _-_, _*_, _≤_}
+use Prim.Native.Nat.{ℕ, _+_, _-_, _*_, _/_, _<_, _≤_}
+use lib.ListN.{length, getD}
 use Rattle.fields.specs.All.{all}
-use Rattle.fields.specs.Limits.{largestCount}
+use Rattle.fields.specs.Limits.{largestCount, mostSteps}
 use Rattle.fields.specs.Judged.{Judged, done, refused, onDone}
 use Rattle.mesh.specs.Corners.{faceWords}
 use Rattle.progressive.specs.declared.counts.Counts.{Counts}
 use Rattle.progressive.specs.declared.counts.Stepped as stepped
+use Rattle.progressive.specs.declared.levels.Marks.{Marks}
 use Rattle.progressive.specs.declared.levels.Place.{Place}
+use Rattle.progressive.specs.declared.levels.Reached.{Reached}
 use Rattle.progressive.specs.declared.levels.Walked.{Walked}
 use Rattle.progressive.specs.declared.levels.Located as located
 use Rattle.progressive.specs.declared.refine.Verdict as verdict
-use Rattle.progressive.specs.StepTable.{moveCount, newFaceCount, facesBefore, stepFormed, stepOffset}
+use Rattle.progressive.specs.StepTable.{moveCount, newFaceCount, facesBefore, stepCount, stepFormed, stepOffset, wellFormed}
 use Rattle.progressive.specs.Rules.{moveNumbers}
 use Rattle.progressive.specs.Mesh.{Mesh}
 use Rattle.progressive.specs.Steps.{levelOf}
+
+-- ---- marks: every so many steps, and how many marks the longest list has
+
+abbrev pub markSteps : ℕ
+markSteps = 8
+
+abbrev pub marks : ℕ
+marks = mostSteps / markSteps
+
+-- what was judged of a list and noted of its steps: mark j is step markSteps * j
+pub record Marked (t : List ℕ) (formed : Bool) (offsets faces : List ℕ) : Type 0 where
+  pub judged : formed ≡ wellFormed t
+  pub some : 0 < length offsets
+  pub same : length faces ≡ length offsets
+  pub noted : wellFormed t ≡ true → (j : ℕ) → j < length offsets → markSteps * j ≤ stepCount t
+      → (getD offsets j 0 ≡ stepOffset t (markSteps * j)) × (getD faces j 0 ≡ facesBefore t (markSteps * j))
+
+abbrev pub MarkedBy : List ℕ → Marks → Type 0
+MarkedBy t m = Marked t (m .formed) (m .offsets) (m .faces)
+
+-- step k
+pub record AtStep (t : List ℕ) (k : ℕ) (r : Reached) : Type 0 where
+  pub offset : r .offset ≡ stepOffset t k
+  pub faces : r .faces ≡ facesBefore t k
 
 -- the walk to level k
 pub record Arrived (t : List ℕ) (k : ℕ) (w : Walked) : Type 0 where

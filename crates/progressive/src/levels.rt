@@ -4,13 +4,36 @@ use crate::form::NEW_FACE_COUNT;
 use crate::form::next_step;
 use crate::form::well_formed;
 use crate::words::number;
+use fields::limits::MOST_STEPS;
 use fields::numbers::BAD_STEPS;
 use fields::numbers::COUNTS_DISAGREE;
+use fields::words::put;
+use fields::words::word;
 ghost use mathlib.Core.Path.{_≡_};
 ghost use mathlib.Core.Bool.{true};
-ghost use Prim.Native.Nat.{_≤_};
+ghost use Prim.Native.Nat.{_+_, _*_, _<_, _≤_};
+ghost use lib.ListN.{length};
 ghost use Rattle.progressive.specs.StepTable.{stepCount, wellFormed};
-ghost use Rattle.progressive.specs.Inside.{Arrived, locatedGiven, placeOf};
+ghost use Rattle.progressive.specs.Inside.{Arrived, AtStep, Marked, MarkedBy, locatedGiven, markSteps, marks, placeOf};
+
+// The steps from one mark to the next, and the marks of the longest list.
+const MARK_STEPS: usize = 8;
+
+const MARKS: usize = MOST_STEPS as usize / MARK_STEPS;
+
+// The steps of a list that are noted, every MARK_STEPS of them: whether the list has its form, and if so their offsets and the numbers of
+// faces before them.
+pub struct Marks {
+    pub formed: bool,
+    pub offsets: [u32; MARKS],
+    pub faces: [u32; MARKS],
+}
+
+// A step's offset, and the number of faces before it.
+pub struct Reached {
+    pub offset: usize,
+    pub faces: usize,
+}
 
 // The offsets of a level's step up and of its step down, and its number of faces.
 pub struct Walked {
@@ -32,29 +55,127 @@ pub enum Located {
     Refused(u32),
 }
 
-// Walks over the first k steps.
-fn walk_to(steps: &[u32], k: usize) -> Walked
-    requires { ⌜ (wellFormed (now steps) ≡ true) × (k ≤ stepCount (now steps)) ⌝ }
-    ensures { λ r. ⌜ Arrived (now (steps .entry)) k r ⌝ }
+// The first step.
+fn first_step(steps: &[u32]) -> Reached
+    ensures { λ r. ⌜ AtStep (now (steps .entry)) 0 r ⌝ }
 {
-    let mut next: usize = HEAD_WORDS;
-    let mut last: usize = HEAD_WORDS;
-    let mut faces = number(steps, 1);
-    let mut j: usize = 0;
-    while j < k {
-        faces = faces + number(steps, next + NEW_FACE_COUNT);
-        last = next;
-        next = next_step(steps, next);
-        j += 1;
+    Reached {
+        offset: HEAD_WORDS,
+        faces: number(steps, 1),
     }
-    Walked { next, last, faces }
 }
 
-// The level that has these counts; 13, then 15.
-pub(crate) fn locate(steps: &[u32], faces: usize, positions: usize) -> Located
+// From step k on to the next.
+fn pass_step(steps: &[u32], k: usize, at: Reached) -> Reached
+    requires { ⌜ (wellFormed (now steps) ≡ true) × (k < stepCount (now steps)) × AtStep (now steps) k at ⌝ }
+    ensures { λ r. ⌜ AtStep (now (steps .entry)) (k + 1) r ⌝ }
+{
+    Reached {
+        offset: next_step(steps, at.offset),
+        faces: at.faces + number(steps, at.offset + NEW_FACE_COUNT),
+    }
+}
+
+// From step j on to step k.
+fn walk_on(steps: &[u32], j: usize, start: Reached, k: usize) -> Reached
+    requires { ⌜ (wellFormed (now steps) ≡ true) × (j ≤ k) × (k ≤ stepCount (now steps)) × AtStep (now steps) j start ⌝ }
+    ensures { λ r. ⌜ AtStep (now (steps .entry)) k r ⌝ }
+{
+    let mut at = start;
+    let mut i = j;
+    while i < k {
+        at = pass_step(steps, i, at);
+        i += 1;
+    }
+    at
+}
+
+// Notes every MARK_STEPS steps of a list that has its form.
+fn note_marks(steps: &[u32], offsets: &mut [u32], faces: &mut [u32])
+    requires { ⌜ (wellFormed (now steps) ≡ true) × (length (now offsets) ≡ marks) × (length (now faces) ≡ marks) ⌝ }
+    ensures { λ _. ⌜ Marked (now (steps .entry)) true (now (offsets .exit)) (now (faces .exit)) ⌝ }
+{
+    let count = number(steps, 2);
+    let mut at = first_step(steps);
+    let mut j: usize = 0;
+    while j < MARKS {
+        put(offsets, j, at.offset as u32);
+        put(faces, j, at.faces as u32);
+        let next = MARK_STEPS * (j + 1);
+        if count < next {
+            return;
+        }
+        at = walk_on(steps, MARK_STEPS * j, at, next);
+        j += 1;
+    }
+}
+
+// Judges the form of a list, and notes its marks if it has it.
+pub(crate) fn mark_steps(steps: &[u32]) -> Marks
+    ensures { λ r. ⌜ MarkedBy (now (steps .entry)) r ⌝ }
+{
+    let mut offsets = [0u32; MARKS];
+    let mut faces = [0u32; MARKS];
+    let formed = well_formed(steps);
+    if formed {
+        note_marks(steps, &mut offsets, &mut faces);
+    }
+    Marks {
+        formed,
+        offsets,
+        faces,
+    }
+}
+
+// Of so many marks, the last that is not after step k.
+fn mark_before(count: usize, k: usize) -> usize
+    requires { ⌜ 0 < count ⌝ }
+    ensures { λ r. ⌜ (r < count) × (markSteps * r ≤ k) ⌝ }
+{
+    let mark = k / MARK_STEPS;
+    if mark < count { mark } else { count - 1 }
+}
+
+// Walks over the first k steps, from the last mark before the end.
+fn walk_to(steps: &[u32], offsets: &[u32], faces_at: &[u32], k: usize) -> Walked
+    requires { ⌜ Marked (now steps) true (now offsets) (now «faces_at») × (k ≤ stepCount (now steps)) ⌝ }
+    ensures { λ r. ⌜ Arrived (now (steps .entry)) k r ⌝ }
+{
+    if k == 0 {
+        let base = first_step(steps);
+        return Walked {
+            next: base.offset,
+            last: base.offset,
+            faces: base.faces,
+        };
+    }
+    let mark = mark_before(offsets.len(), k - 1);
+    let noted = Reached {
+        offset: number(offsets, mark),
+        faces: number(faces_at, mark),
+    };
+    let last = walk_on(steps, MARK_STEPS * mark, noted, k - 1);
+    let next = pass_step(steps, k - 1, last);
+    Walked {
+        next: next.offset,
+        last: last.offset,
+        faces: next.faces,
+    }
+}
+
+// The level that has these counts, in a list whose form was judged and whose marks were noted; 13, then 15.
+pub(crate) fn locate(
+    steps: &[u32],
+    formed: bool,
+    offsets: &[u32],
+    faces_at: &[u32],
+    faces: usize,
+    positions: usize,
+) -> Located
+    requires { ⌜ Marked (now steps) formed (now offsets) (now «faces_at») ⌝ }
     ensures { λ r. ⌜ locatedGiven r ≡ placeOf (now (steps .entry)) faces positions ⌝ }
 {
-    if !well_formed(steps) {
+    if !formed {
         return Located::Refused(BAD_STEPS);
     }
     let base = number(steps, 0);
@@ -65,7 +186,7 @@ pub(crate) fn locate(steps: &[u32], faces: usize, positions: usize) -> Located
     if number(steps, 2) < level {
         return Located::Refused(COUNTS_DISAGREE);
     }
-    let walked = walk_to(steps, level);
+    let walked = walk_to(steps, offsets, faces_at, level);
     if walked.faces != faces {
         return Located::Refused(COUNTS_DISAGREE);
     }
@@ -74,4 +195,20 @@ pub(crate) fn locate(steps: &[u32], faces: usize, positions: usize) -> Located
         next: walked.next,
         last: walked.last,
     })
+}
+
+// The level that has these counts, in a list that is judged for this one step: its only mark is the first step.
+pub(crate) fn locate_once(steps: &[u32], faces: usize, positions: usize) -> Located
+    ensures { λ r. ⌜ locatedGiven r ≡ placeOf (now (steps .entry)) faces positions ⌝ }
+{
+    let offsets = [HEAD_WORDS as u32];
+    let faces_at = [word(steps, 1)];
+    locate(
+        steps,
+        well_formed(steps),
+        &offsets,
+        &faces_at,
+        faces,
+        positions,
+    )
 }

@@ -10,7 +10,7 @@ use crate::lay::undo_faces;
 use crate::lay::write_coordinates;
 use crate::levels::Located;
 use crate::levels::Place;
-use crate::levels::locate;
+use crate::levels::locate_once;
 use crate::rules::numbers_allowed;
 use crate::show::corners_show;
 use crate::show::room_clear;
@@ -30,7 +30,7 @@ ghost use Rattle.progressive.specs.Mesh.{fits, meshOf};
 ghost use Rattle.progressive.specs.Rules.{allowedOn};
 ghost use Rattle.progressive.specs.Laying.{laid, undone};
 ghost use Rattle.progressive.specs.Steps.{coarsened, coarsenedBy, refined, refinedBy, reply, replyOf};
-ghost use Rattle.progressive.specs.Inside.{StepBetween, refusalOf, verdictGiven};
+ghost use Rattle.progressive.specs.Inside.{StepBetween, locatedGiven, placeOf, refusalOf, verdictGiven};
 
 // Whether a step may be taken, or the number of a refusal.
 pub enum Verdict {
@@ -203,19 +203,23 @@ fn coarsen_by(
     }
 }
 
-// One step up: the vertex split of the present level. Answers 13, 15, 16, 12, 14 and 18, in that order; a refusal leaves the tables.
-pub fn refine(
+// The step up of a level that was located.
+pub(crate) fn refine_located(
     steps: &[u32],
+    located: Located,
     shadings: u32,
     faces: &mut [u32],
     positions: &mut [u32],
     counts: Counts,
 ) -> Stepped
-    ensures { λ v. ⌜ replyOf v (now (faces .exit)) (now (positions .exit)) ≡ reply (refined (now (steps .entry)) shadings (meshOf (now (faces .entry)) (now (positions .entry)) counts)) (meshOf (now (faces .entry)) (now (positions .entry)) counts) ⌝ }
+    requires { ⌜ locatedGiven located ≡ placeOf (now steps) (counts .faces) (counts .positions) ⌝ }
+    ensures { λ v. ⌜ replyOf v (now (faces .exit)) (now (positions .exit))
+        ≡ reply (refined (now (steps .entry)) shadings (meshOf (now (faces .entry)) (now (positions .entry)) counts))
+        (meshOf (now (faces .entry)) (now (positions .entry)) counts) ⌝ }
 {
     let f = counts.faces as usize;
     let r = counts.positions as usize;
-    match locate(steps, f, r) {
+    match located {
         Located::Refused(number) => refused(number, counts),
         Located::At(place) => {
             if place.level == number(steps, 2) {
@@ -239,19 +243,37 @@ pub fn refine(
     }
 }
 
-// One step down: the vertex split before the present level is undone. Answers as `refine`.
-pub fn coarsen(
+// One step up: the vertex split of the present level. Answers 13, 15, 16, 12, 14 and 18, in that order; a refusal leaves the tables.
+pub fn refine(
     steps: &[u32],
     shadings: u32,
     faces: &mut [u32],
     positions: &mut [u32],
     counts: Counts,
 ) -> Stepped
-    ensures { λ v. ⌜ replyOf v (now (faces .exit)) (now (positions .exit)) ≡ reply (coarsened (now (steps .entry)) shadings (meshOf (now (faces .entry)) (now (positions .entry)) counts)) (meshOf (now (faces .entry)) (now (positions .entry)) counts) ⌝ }
+    ensures { λ v. ⌜ replyOf v (now (faces .exit)) (now (positions .exit)) ≡ reply (refined (now (steps .entry)) shadings (meshOf (now (faces .entry)) (now (positions .entry)) counts)) (meshOf (now (faces .entry)) (now (positions .entry)) counts) ⌝ }
+{
+    let located = locate_once(steps, counts.faces as usize, counts.positions as usize);
+    refine_located(steps, located, shadings, faces, positions, counts)
+}
+
+// The step down of a level that was located.
+pub(crate) fn coarsen_located(
+    steps: &[u32],
+    located: Located,
+    shadings: u32,
+    faces: &mut [u32],
+    positions: &mut [u32],
+    counts: Counts,
+) -> Stepped
+    requires { ⌜ locatedGiven located ≡ placeOf (now steps) (counts .faces) (counts .positions) ⌝ }
+    ensures { λ v. ⌜ replyOf v (now (faces .exit)) (now (positions .exit))
+        ≡ reply (coarsened (now (steps .entry)) shadings (meshOf (now (faces .entry)) (now (positions .entry)) counts))
+        (meshOf (now (faces .entry)) (now (positions .entry)) counts) ⌝ }
 {
     let f = counts.faces as usize;
     let r = counts.positions as usize;
-    match locate(steps, f, r) {
+    match located {
         Located::Refused(number) => refused(number, counts),
         Located::At(place) => {
             if place.level == 0 {
@@ -273,4 +295,18 @@ pub fn coarsen(
             )
         }
     }
+}
+
+// One step down: the vertex split before the present level is undone. Answers as `refine`.
+pub fn coarsen(
+    steps: &[u32],
+    shadings: u32,
+    faces: &mut [u32],
+    positions: &mut [u32],
+    counts: Counts,
+) -> Stepped
+    ensures { λ v. ⌜ replyOf v (now (faces .exit)) (now (positions .exit)) ≡ reply (coarsened (now (steps .entry)) shadings (meshOf (now (faces .entry)) (now (positions .entry)) counts)) (meshOf (now (faces .entry)) (now (positions .entry)) counts) ⌝ }
+{
+    let located = locate_once(steps, counts.faces as usize, counts.positions as usize);
+    coarsen_located(steps, located, shadings, faces, positions, counts)
 }

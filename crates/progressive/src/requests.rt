@@ -1,8 +1,11 @@
 // Many steps in one call (02, Ask 6): a walk takes wishes in turn and stops at the first refusal; the steps granted before it stay.
 use crate::counts::Counts;
 use crate::counts::Stepped;
-use crate::refine::coarsen;
-use crate::refine::refine;
+use crate::levels::Marks;
+use crate::levels::locate;
+use crate::levels::mark_steps;
+use crate::refine::coarsen_located;
+use crate::refine::refine_located;
 use fields::limits::MOST_STEPS;
 use fields::numbers::OVER_LIMIT;
 ghost use mathlib.Core.Path.{_≡_};
@@ -12,6 +15,7 @@ ghost use lib.Dec.{leb};
 ghost use Rattle.fields.specs.Limits.{mostSteps};
 ghost use Rattle.progressive.specs.Mesh.{meshOf};
 ghost use Rattle.progressive.specs.Steps.{reply, replyOf};
+ghost use Rattle.progressive.specs.Inside.{Marked, MarkedBy};
 ghost use Rattle.progressive.specs.Requests.{askIn, askedOn, asks, asksOf, progressOf, walkedOn};
 
 // A wish: steps up (direction 0) or down (1), and how many.
@@ -33,30 +37,41 @@ pub struct Progress {
 fn step_in(
     direction: u32,
     steps: &[u32],
+    formed: bool,
+    offsets: &[u32],
+    faces_at: &[u32],
     shadings: u32,
     faces: &mut [u32],
     positions: &mut [u32],
     counts: Counts,
 ) -> Stepped
+    requires { ⌜ Marked (now steps) formed (now offsets) (now «faces_at») ⌝ }
     ensures { λ v. ⌜ replyOf v (now (faces .exit)) (now (positions .exit))
         ≡ reply (askedOn (now (steps .entry)) shadings (meshOf (now (faces .entry)) (now (positions .entry)) counts) (askIn direction))
         (meshOf (now (faces .entry)) (now (positions .entry)) counts) ⌝ }
 {
+    let f = counts.faces as usize;
+    let r = counts.positions as usize;
+    let located = locate(steps, formed, offsets, faces_at, f, r);
     if direction == 0 {
-        return refine(steps, shadings, faces, positions, counts);
+        return refine_located(steps, located, shadings, faces, positions, counts);
     }
-    coarsen(steps, shadings, faces, positions, counts)
+    coarsen_located(steps, located, shadings, faces, positions, counts)
 }
 
 // One step more of a walk that was not refused.
 fn step_on(
     direction: u32,
     steps: &[u32],
+    formed: bool,
+    offsets: &[u32],
+    faces_at: &[u32],
     shadings: u32,
     faces: &mut [u32],
     positions: &mut [u32],
     progress: Progress,
 ) -> Progress
+    requires { ⌜ Marked (now steps) formed (now offsets) (now «faces_at») ⌝ }
     ensures { λ r. ⌜ progressOf r (now (faces .exit)) (now (positions .exit))
         ≡ walkedOn (now (steps .entry)) shadings (askIn direction ∷ []) (progressOf progress (now (faces .entry)) (now (positions .entry))) ⌝ }
 {
@@ -67,7 +82,17 @@ fn step_on(
         positions: progress.positions,
         faces: progress.faces,
     };
-    match step_in(direction, steps, shadings, faces, positions, counts) {
+    match step_in(
+        direction,
+        steps,
+        formed,
+        offsets,
+        faces_at,
+        shadings,
+        faces,
+        positions,
+        counts,
+    ) {
         Stepped::Done(made) => Progress {
             number: 0,
             granted: std::num::wrapping_add_u64(progress.granted, 1),
@@ -93,16 +118,18 @@ fn request_formed(direction: u32, count: u32) -> bool
     direction <= 1
 }
 
-// One wish of a walk that was not refused: 9 if it is above 4,096 or neither up nor down; else its steps, to the first refusal.
-pub fn take_request(
+// One wish of a walk, in a list whose form was judged and whose marks were noted.
+pub(crate) fn take_marked(
     direction: u32,
     count: u32,
     steps: &[u32],
+    marks: Marks,
     shadings: u32,
     faces: &mut [u32],
     positions: &mut [u32],
     start: Progress,
 ) -> Progress
+    requires { ⌜ MarkedBy (now steps) marks ⌝ }
     ensures { λ r. ⌜ progressOf r (now (faces .exit)) (now (positions .exit))
         ≡ walkedOn (now (steps .entry)) shadings (asksOf direction count) (progressOf start (now (faces .entry)) (now (positions .entry))) ⌝ }
 {
@@ -117,13 +144,51 @@ pub fn take_request(
             faces: start.faces,
         };
     }
+    let offsets = marks.offsets;
+    let faces_at = marks.faces;
     let mut progress = start;
     let mut left = count;
     while 0 < left {
-        progress = step_on(direction, steps, shadings, faces, positions, progress);
+        progress = step_on(
+            direction,
+            steps,
+            marks.formed,
+            &offsets,
+            &faces_at,
+            shadings,
+            faces,
+            positions,
+            progress,
+        );
         left -= 1;
     }
     progress
+}
+
+// One wish of a walk that was not refused: 9 if it is above 4,096 or neither up nor down; else its steps, to the first refusal.
+pub fn take_request(
+    direction: u32,
+    count: u32,
+    steps: &[u32],
+    shadings: u32,
+    faces: &mut [u32],
+    positions: &mut [u32],
+    start: Progress,
+) -> Progress
+    ensures { λ r. ⌜ progressOf r (now (faces .exit)) (now (positions .exit))
+        ≡ walkedOn (now (steps .entry)) shadings (asksOf direction count) (progressOf start (now (faces .entry)) (now (positions .entry))) ⌝ }
+{
+    let marks = mark_steps(steps);
+    take_marked(
+        direction,
+        count,
+        steps,
+        marks,
+        shadings,
+        faces,
+        positions,
+        start,
+    )
 }
 
 // Every wish in turn, to the first refusal.
@@ -138,15 +203,17 @@ pub fn step_all(
     ensures { λ r. ⌜ progressOf r (now (faces .exit)) (now (positions .exit))
         ≡ walkedOn (now (steps .entry)) shadings (asks (now (requests .entry))) (progressOf start (now (faces .entry)) (now (positions .entry))) ⌝ }
 {
+    let marks = mark_steps(steps);
     let mut progress = start;
     let mut i: usize = 0;
     while i < requests.len() {
         let direction = requests[i].direction;
         let count = requests[i].count;
-        progress = take_request(
+        progress = take_marked(
             direction,
             count,
             steps,
+            marks,
             shadings,
             faces,
             positions,

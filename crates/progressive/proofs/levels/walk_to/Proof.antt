@@ -1,68 +1,76 @@
--- The invariant: the walk stands at level j, between the steps `last` and `next`, with the faces so far.
-use Prim.Native.Nat.{_-_}
+-- The walk starts at a mark that was noted, and ends at the step before the level; one step more is the level's.
+use native.Mathlib.Omega.{arith}
 use denote.Ref.{now}
 use borrow.Author.Needs.{needs}
-use Rattle.progressive.proofs.Reaching.{Placed, place-ends, place-on, place-starts}
+use Rattle.progressive.proofs.Reaching.{arrived, arrived-base}
+use Rattle.progressive.proofs.Marking.{form-of, mark-at}
 use Rattle.progressive.proofs.levels.walk_to.Statement.{statement}
 use Rattle.progressive.proofs.levels.walk_to.Tie as tie
 
-abbrev Inv-loop : tie.InvT-loop
-Inv-loop steps k next₀ last₀ faces₀ j₀ next last faces j = Placed steps k next last faces j
+first-step-requires : tie.Need-first-step-requires
+first-step-requires c κs = search needs
 
-abbrev μ-loop : tie.MeasureT-loop
-μ-loop steps k next₀ last₀ faces₀ j₀ next last faces j = k - j
+returns : tie.Need-returns
+returns c =
+    let a = c .before .before .before .before .before .args in
+    arrived-base (now (a .steps)) (a .k) (c .before .if1 .taken) (c .first-step .ensures)
 
-number-requires : tie.Need-number-requires Inv-loop μ-loop
+sub-mark-before : tie.Need-sub-mark-before
+sub-mark-before c = search needs
+
+mark-before-requires : tie.Need-mark-before-requires
+mark-before-requires c κs = search needs
+
+number-requires : tie.Need-number-requires
 number-requires c κs = search needs
 
-loop-holds : tie.Need-loop-holds Inv-loop μ-loop
-loop-holds c =
-    let at-start = c .before .before in
-    place-starts (now (at-start .args .steps)) (at-start .args .k) (at-start .pre .0) (at-start .pre .1) (c .number .ensures .0)
-
-add-number : tie.Need-add-number Inv-loop μ-loop
-add-number c = search needs
-
-number-requires-2 : tie.Need-number-requires-2 Inv-loop μ-loop
+number-requires-2 : tie.Need-number-requires-2
 number-requires-2 c κs = search needs
 
-add-faces : tie.Need-add-faces Inv-loop μ-loop
-add-faces c = search needs
+mul-walk-on : tie.Need-mul-walk-on
+mul-walk-on c = search needs
 
-next-step-requires : tie.Need-next-step-requires Inv-loop μ-loop
-next-step-requires c κs = search needs
+sub-walk-on : tie.Need-sub-walk-on
+sub-walk-on c = search needs
 
-add-j : tie.Need-add-j Inv-loop μ-loop
-add-j c = search needs
+walk-on-requires : tie.Need-walk-on-requires
+walk-on-requires c κs =
+    let at-start = c .before .before .before .before .before .before .before in
+    let marked = at-start .pre .0 in
+    let in-list = c .before .before .mark-before .ensures in (
+      form-of marked,
+      in-list .1,
+      omega (arith, at-start .pre .1),
+      mark-at marked (in-list .0) (omega (arith, in-list .1, at-start .pre .1))
+          (c .before .number .ensures .0) (c .number2 .ensures .0),
+    )
 
-loop-less : tie.Need-loop-less Inv-loop μ-loop
-loop-less c = search needs
+sub-pass-step : tie.Need-sub-pass-step
+sub-pass-step c = search needs
 
-loop-again : tie.Need-loop-again Inv-loop μ-loop
-loop-again c =
-    let at-loop = c .before .before .before in
-    let at-start = at-loop .before .before .before in
-    place-on (now (at-start .args .steps)) (at-start .args .k) (at-start .pre .0) (at-start .pre .1) (at-loop .loop .inv) (c .before .before .loop-test .taken)
-    (c .before .number2 .ensures .0) (c .next-step .ensures)
+pass-step-requires : tie.Need-pass-step-requires
+pass-step-requires c κs =
+    let at-start = c .before .before .before .before .before .before .before .before in
+    (form-of (at-start .pre .0), omega (arith, at-start .pre .1, c .before .before .before .before .if1 .left), c .walk-on .ensures)
 
-returns : tie.Need-returns Inv-loop μ-loop
-returns c =
-    let a = c .before .before .before .before .args in
-    place-ends (now (a .steps)) (a .k) (c .before .loop .inv) (c .loop-test .left)
+returns-2 : tie.Need-returns-2
+returns-2 c =
+    let a = c .before .before .before .before .before .before .before .before .before .args in
+    arrived (now (a .steps)) (a .k) (c .before .before .before .before .before .if1 .left) (c .before .walk-on .ensures) (c .pass-step .ensures)
 
 pub walk-to-spec : {M : Type 1} → statement M
 walk-to-spec =
     tie.close
     (tie.spec
-    Inv-loop
-    μ-loop
+    first-step-requires
+    returns
+    sub-mark-before
+    mark-before-requires
     number-requires
-    loop-holds
-    add-number
     number-requires-2
-    add-faces
-    next-step-requires
-    add-j
-    loop-less
-    loop-again
-    returns)
+    mul-walk-on
+    sub-walk-on
+    walk-on-requires
+    sub-pass-step
+    pass-step-requires
+    returns-2)

@@ -8,7 +8,7 @@ use Rattle.progressive.proofs.requests.step_on.Statement.{statement}
 use Rattle.progressive.proofs.requests.step_on.Tie as tie
 
 returns : tie.Need-returns
-returns c = let a = c .before .before .before .before .before .args in walked-stays (now (a .steps)) (a .shadings) (askIn (a .direction) ∷ []) (progressOf (a .progress) (now (a .faces)) (now (a .positions))) (c .if1 .taken) (search needs)
+returns c = let a = c .before .before .before .before .before .before .before .args in walked-stays (now (a .steps)) (a .shadings) (askIn (a .direction) ∷ []) (progressOf (a .progress) (now (a .faces)) (now (a .positions))) (c .if1 .taken) (search needs)
 
 step-in-requires : tie.Need-step-in-requires
 step-in-requires c κs = search needs
@@ -29,7 +29,7 @@ same-length-2 : tie.Need-same-length-2
 same-length-2 c = search needs
 
 returns-2 : tie.Need-returns-2
-returns-2 c = let a = c .before .before .before .before .before .before .before .before .before .before .before .before .before .before .before .before .args in one-granted (now (a .steps)) (a .shadings) (askIn (a .direction)) (progressOf (a .progress) (now (a .faces)) (now (a .positions))) _ _ (search needs) (c .before .before .before .before .before .before .before .before .step-in .ensures) (c .before .before .made .given .1) (c .wrapping-add-u64 .ensures)
+returns-2 c = let a = c .before .before .before .before .before .before .before .before .before .before .before .before .before .before .before .before .before .before .args in one-granted (now (a .steps)) (a .shadings) (askIn (a .direction)) (progressOf (a .progress) (now (a .faces)) (now (a .positions))) _ _ (search needs) (c .before .before .before .before .before .before .before .before .step-in .ensures) (c .before .before .made .given .1) (c .wrapping-add-u64 .ensures)
 
 same-length-3 : tie.Need-same-length-3
 same-length-3 c = search needs
@@ -38,7 +38,7 @@ same-length-4 : tie.Need-same-length-4
 same-length-4 c = search needs
 
 returns-3 : tie.Need-returns-3
-returns-3 c = let a = c .before .before .before .before .before .before .before .before .before .before .before .before .before .before .before .args in one-denied (now (a .steps)) (a .shadings) (askIn (a .direction)) (progressOf (a .progress) (now (a .faces)) (now (a .positions))) _ _ (search needs) (c .before .before .before .before .before .before .before .step-in .ensures) (c .before .refusal .given .1) (search needs)
+returns-3 c = let a = c .before .before .before .before .before .before .before .before .before .before .before .before .before .before .before .before .before .args in one-denied (now (a .steps)) (a .shadings) (askIn (a .direction)) (progressOf (a .progress) (now (a .faces)) (now (a .positions))) _ _ (search needs) (c .before .before .before .before .before .before .before .step-in .ensures) (c .before .refusal .given .1) (search needs)
 
 pub step-on-spec : {M : Type 1} → statement M
 step-on-spec =
