@@ -18,9 +18,9 @@ unfolding tablesAfter
 left-zero d s before m e = ap (λ (j : InPart base.Mesh). baseMesh (tablesAfter j before) (countsOf m)) e
 
 -- For every declaration d and continuation s that the mesh reader reads into any six tables, with the counts that it answers and the tables that
--- it leaves, every step list that states its base counts, the shading count it gave, and every list of calls for steps up and down: each call
--- answers what the tally answers, which knows only the base mesh, the shading count, the step list, the tables' lengths and the calls; and after
--- each call tables and counts equal, number for number to the tables' ends, the base mesh with the list's first k steps laid on it.
+-- it leaves, every step list that states its base counts, the shading count it gave, and every list of calls for steps up and down and for
+-- walks: each call answers what the tally answers, which knows only the base mesh, the shading count, the step list, the tables' lengths and the
+-- calls; and after each call tables and counts equal, number for number to the tables' ends, the base mesh with the list's first k steps laid on it.
 pub calls-follow-tally : (d s : List ℕ) (before : Tables) (m : base.Mesh) → meshOf d s (lengthsOf before) ≡ read m → (steps : List ℕ)
     → States steps (countsOf m) → (calls : List Call)
     → (let after = tablesAfter (meshOf d s (lengthsOf before)) before in

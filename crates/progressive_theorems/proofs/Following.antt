@@ -1,6 +1,7 @@
--- Whatever the list of calls, the replies to steps up and down are the tally's, number for number in the tables too. By induction on the list:
--- at each level that was reached, a call is judged as the tally judges it, and leads to a level that was reached.
-use mathlib.Core.Path.{_≡_, refl, sym, _∙_}
+-- Whatever the list of calls, the answers to steps up and down and to walks are the tally's, number for number in the tables too. By induction
+-- on the list, and in a walk on its single steps: at each level that was reached, a step is judged as the tally judges it, and leads to a level
+-- that was reached.
+use mathlib.Core.Path.{_≡_, _∙_, ap, refl, sym}
 use mathlib.Core.Bool.{Bool, true, false, not}
 use mathlib.Core.List.{List, [], _∷_}
 use Prim.Native.Nat.{ℕ, zero, suc, _+_, _-_}
@@ -10,15 +11,16 @@ use borrow.Author.Tests.{eqb-false, ne-eqb, not-false}
 use lib.Dec.{eqb}
 use Rattle.fields.specs.Numbers.{badSteps, noRoom, noStep, notAllowed}
 use Rattle.fields.specs.Judged.{Judged, done, refused, onDone, refusedIf}
-use Rattle.fields.proofs.Judging.{passed, same-done}
+use Rattle.fields.proofs.Judging.{not-done, passed, same-done}
 use Rattle.progressive.specs.StepTable.{newFaceCount, stepCount, stepFormed, stepOffset, wellFormed}
 use Rattle.progressive.specs.Mesh.{Mesh, roomFor}
 use Rattle.progressive.specs.Rules.{allowed}
 use Rattle.progressive.specs.Laying.{laid, laidFaces, laidPositions, showsLaid, undone}
-use Rattle.progressive.specs.Steps.{coarsened, coarsenedBy, levelOf, refined, refinedBy, reply}
+use Rattle.progressive.specs.Steps.{coarsened, coarsenedBy, levelOf, refined, refinedBy}
+use Rattle.progressive.specs.Requests.{Ask, StepWalk, asTold, askDown, askOver, askUp, askedOn, asks, grantedFirst, judgedAsk, walkBy, walkOver}
 use Rattle.progressive.proofs.Formed.{formed-at}
-use Rattle.progressive_theorems.specs.Calls.{Call, down, judgedBy, meshAfter, replies, up}
-use Rattle.progressive_theorems.specs.Tally.{levelAfter, meshAt, stepFits, tally, tallyDown, tallyOf, tallyUp}
+use Rattle.progressive_theorems.specs.Calls.{Call, answerTo, asked, down, meshAfter, ofWalk, replies, stepAnswer, up, walk}
+use Rattle.progressive_theorems.specs.Tally.{levelAfter, meshAt, stepAt, stepFits, tally, tallyDown, tallyOf, tallyUp, tallyWalk, walkAt}
 use Rattle.progressive_theorems.proofs.Undoing.{Ready, laid-shown, laid-undone, numbers, room-clear}
 use Rattle.progressive_theorems.proofs.Levels.{Based, Granted, Reached, agree-at, below-steps, face-length, level-at, position-length, ready-at, room-at}
 
@@ -46,11 +48,25 @@ next-mesh : (t : List ℕ) (base : Mesh) (k : ℕ) → meshAt t base (k + 1) ≡
 unfolding meshAt
 next-mesh t base k = rw add-one
 
--- the mesh after a reply is that of the level after it
-pub after-level : (t : List ℕ) (base : Mesh) (k : ℕ) (answer : Judged ℕ)
-    → meshAfter (reply (onDone answer (λ j. done (meshAt t base j))) (meshAt t base k)) ≡ meshAt t base (levelAfter answer k)
-after-level t base k (done j) = refl
-after-level t base k (refused n p) = refl
+-- ---- the tally alone
+
+module _ (t : List ℕ) (shadings : ℕ) (base : Mesh) where
+  -- one ask, as the tally judges it
+  abbrev pub tallyAsk : ℕ → Ask → Judged ℕ
+  tallyAsk k ask = judgedAsk (tallyUp t shadings base) (tallyDown t) k ask
+
+  -- the mesh after an answer is that of the level after it
+  after-step : (k : ℕ) (answer : Judged ℕ)
+      → meshAfter (stepAt t base k answer) ≡ meshAt t base (grantedFirst answer k (λ j. tallyWalk t shadings base j []) .state)
+  unfolding walkBy
+  after-step k (done j) = refl
+  after-step k (refused n p) = refl
+
+  after-level : (k : ℕ) (call : Call) → meshAfter (tallyOf t shadings base k call) ≡ meshAt t base (levelAfter t shadings base k call)
+  unfolding tallyOf walkBy
+  after-level k up = after-step k (tallyUp t shadings base k)
+  after-level k down = after-step k (tallyDown t k)
+  after-level k (walk requests) = refl
 
 module _ (t : List ℕ) (shadings : ℕ) (base : Mesh) (based : Based t base) where
   -- the level that a mesh's counts tell
@@ -87,7 +103,7 @@ module _ (t : List ℕ) (shadings : ℕ) (base : Mesh) (based : Based t base) wh
       )
       (same-tests (wellFormed t) (eqb k (stepCount t)) (stepFits t base k) (allowed t (stepOffset t k) shadings (meshAt t base k)) (k + 1) (meshAt t base))
 
-  up-granted : (k j : ℕ) → Reached t shadings base k → tallyUp t shadings base k ≡ done j → (j ≡ suc k) × Granted t shadings base k
+  pub up-granted : (k j : ℕ) → Reached t shadings base k → tallyUp t shadings base k ≡ done j → (j ≡ suc k) × Granted t shadings base k
   unfolding tallyUp
   up-granted k j reached e =
       let a = passed (not (wellFormed t)) badSteps 0 _ j e in
@@ -103,10 +119,6 @@ module _ (t : List ℕ) (shadings : ℕ) (base : Mesh) (based : Based t base) wh
           permitted = not-false _ (d .0);
         },
       )
-
-  up-reached : (k : ℕ) (answer : Judged ℕ) → tallyUp t shadings base k ≡ answer → Reached t shadings base k → Reached t shadings base (levelAfter answer k)
-  up-reached k (done j) e reached = let g = up-granted k j reached e in rw (g .0) (reached, g .1)
-  up-reached k (refused n p) e reached = reached
 
   -- ---- down
 
@@ -192,39 +204,72 @@ module _ (t : List ℕ) (shadings : ℕ) (base : Mesh) (based : Based t base) wh
   down-followed zero reached = base-coarsened
   down-followed (suc j) reached = rw (above-tallied j reached) (above-coarsened j reached)
 
-  base-level : levelAfter (tallyDown t 0) 0 ≡ 0
+  pub down-granted : (k j : ℕ) → tallyDown t k ≡ done j → k ≡ suc j
   unfolding tallyDown
-  base-level = either (wellFormed t)
-    where
-      either : (formed : Bool) → levelAfter (refusedIf (not formed) badSteps 0 (refusedIf (eqb 0 0) noStep 0 (done (0 - 1)))) 0 ≡ 0
-      either true = refl
-      either false = refl
+  down-granted k j e =
+      let a = passed (not (wellFormed t)) badSteps 0 _ j e in
+      let b = passed (eqb k 0) noStep 0 _ j (a .1) in
+      let differ : k ≡ 0 → ⊥ = eqb-false _ _ (b .0) in
+      let less : k - 1 ≡ j = same-done (b .1) in
+      omega arith
 
-  down-reached : (k : ℕ) → Reached t shadings base k → Reached t shadings base (levelAfter (tallyDown t k) k)
-  down-reached zero reached = rw base-level tt
-  down-reached (suc j) reached = rw (above-tallied j reached) (reached .0)
+  -- ---- a walk
+
+  -- one ask: judged alike, and a level that was reached after it
+  ask-followed : (ask : Ask) (k : ℕ) → Reached t shadings base k
+      → askedOn t shadings (meshAt t base k) ask ≡ onDone (tallyAsk t shadings base k ask) (λ j. done (meshAt t base j))
+  ask-followed askUp k reached = up-followed k reached
+  ask-followed askDown k reached = down-followed k reached
+  ask-followed askOver k reached = refl
+
+  pub ask-reached : (ask : Ask) (k j : ℕ) → Reached t shadings base k → tallyAsk t shadings base k ask ≡ done j → Reached t shadings base j
+  ask-reached askUp k j reached e = let g = up-granted k j reached e in rw (g .0) (reached, g .1)
+  ask-reached askDown k j reached e = let above : Reached t shadings base (suc j) = rw (down-granted k j e) at reached in above .0
+  ask-reached askOver k j reached e = not-done e
+
+  pub walk-followed : (list : List Ask) (k : ℕ) → Reached t shadings base k
+      → walkOver t shadings (meshAt t base k) list ≡ walkAt t base (tallyWalk t shadings base k list)
+  unfolding walkBy
+  walk-followed [] k reached = refl
+  walk-followed (ask ∷ more) k reached =
+      rw (ask-followed ask k reached) (go (tallyAsk t shadings base k ask) (λ j e. walk-followed more j (ask-reached ask k j reached e)))
+    where
+      go : (answer : Judged ℕ)
+          → ((j : ℕ) → answer ≡ done j → walkOver t shadings (meshAt t base j) more ≡ walkAt t base (tallyWalk t shadings base j more))
+          → grantedFirst (onDone answer (λ j. done (meshAt t base j))) (meshAt t base k) (λ m. walkOver t shadings m more)
+          ≡ walkAt t base (grantedFirst answer k (λ j. tallyWalk t shadings base j more))
+      go (done j) ih = rw (ih j refl)
+      go (refused n p) ih = refl
+
+  pub walk-reached : (list : List Ask) (k : ℕ) → Reached t shadings base k → Reached t shadings base (tallyWalk t shadings base k list .state)
+  unfolding walkBy
+  walk-reached [] k reached = reached
+  walk-reached (ask ∷ more) k reached = go (tallyAsk t shadings base k ask) (λ j e. walk-reached more j (ask-reached ask k j reached e))
+    where
+      go : (answer : Judged ℕ) → ((j : ℕ) → answer ≡ done j → Reached t shadings base (tallyWalk t shadings base j more .state))
+          → Reached t shadings base (grantedFirst answer k (λ j. tallyWalk t shadings base j more) .state)
+      go (done j) ih = ih j refl
+      go (refused n p) ih = reached
 
   -- ---- a call, and a list of calls
 
-  followed : (k : ℕ) (call : Call) → Reached t shadings base k
-      → judgedBy t shadings (meshAt t base k) call ≡ onDone (tallyOf t shadings base k call) (λ j. done (meshAt t base j))
-  unfolding judgedBy tallyOf
-  followed k up reached = up-followed k reached
-  followed k down reached = down-followed k reached
+  followed : (k : ℕ) (call : Call) → Reached t shadings base k → answerTo t shadings (meshAt t base k) call ≡ tallyOf t shadings base k call
+  unfolding answerTo tallyOf
+  followed k up reached = ap (λ (j : Judged Mesh). stepAnswer j (meshAt t base k)) (up-followed k reached)
+  followed k down reached = ap (λ (j : Judged Mesh). stepAnswer j (meshAt t base k)) (down-followed k reached)
+  followed k (walk requests) reached = ap (λ (w : StepWalk Mesh). ofWalk (asTold w)) (walk-followed (asks requests) k reached)
 
-  reached-after : (k : ℕ) (call : Call) → Reached t shadings base k → Reached t shadings base (levelAfter (tallyOf t shadings base k call) k)
-  unfolding tallyOf
-  reached-after k up reached = up-reached k (tallyUp t shadings base k) refl reached
-  reached-after k down reached = down-reached k reached
+  pub after-call : (k : ℕ) (call : Call) → Reached t shadings base k
+      → meshAfter (answerTo t shadings (meshAt t base k) call) ≡ meshAt t base (levelAfter t shadings base k call)
+  after-call k call reached = ap meshAfter (followed k call reached) ∙ after-level t shadings base k call
 
-  pub from-level : (calls : List Call) (k : ℕ) → Reached t shadings base k → replies t shadings (meshAt t base k) calls ≡ tally t shadings base k calls
+  from-level : (calls : List Call) (k : ℕ) → Reached t shadings base k → replies t shadings (meshAt t base k) calls ≡ tally t shadings base k calls
   unfolding replies tally
   from-level [] k reached = refl
   from-level (call ∷ calls) k reached =
-      let answer = tallyOf t shadings base k call in
-      rw (followed k call reached, after-level t base k answer, from-level calls (levelAfter answer k) (reached-after k call reached))
+      rw (after-call k call reached, followed k call reached, from-level calls (levelAfter t shadings base k call) (walk-reached (asked call) k reached))
 
-  -- from a base mesh as its reader left it, every list of calls gets the tally's replies
+  -- from a base mesh as its reader left it, every list of calls gets the tally's answers
   pub follows-tally : (calls : List Call) → replies t shadings base calls ≡ tally t shadings base 0 calls
   unfolding meshAt
   follows-tally calls = from-level calls 0 tt

@@ -5,15 +5,15 @@ use Prim.Native.Nat.{ℕ, zero, suc, _+_, _-_}
 use lib.Dec.{eqb}
 use lib.ListN.{getD, length}
 use Rattle.fields.specs.Numbers.{badSteps, noRoom, noStep, notAllowed}
-use Rattle.fields.specs.Judged.{Judged, done, refused, onDone, refusedIf}
+use Rattle.fields.specs.Judged.{Judged, done, onDone, refusedIf}
 use Rattle.mesh.specs.Run.{filled}
 use Rattle.mesh.specs.Base as base
 use Rattle.progressive.specs.StepTable.{newFaceCount, stepCount, stepOffset, wellFormed}
 use Rattle.progressive.specs.Mesh.{Mesh, fits}
 use Rattle.progressive.specs.Rules.{allowed}
 use Rattle.progressive.specs.Laying.{laid}
-use Rattle.progressive.specs.Steps.{Reply, reply}
-use Rattle.progressive_theorems.specs.Calls.{Call, up, down}
+use Rattle.progressive.specs.Requests.{Ask, StepWalk, asTold, asks, walkBy}
+use Rattle.progressive_theorems.specs.Calls.{Call, CallAnswer, asked, down, ofWalk, stepAnswer, up, walk}
 
 -- "Mesh 0 is the base mesh, all room past it 0", in tables of these lengths
 abbrev pub meshZero : base.Mesh → List ℕ → Mesh
@@ -52,23 +52,33 @@ tallyDown t k =
     (refusedIf (eqb k 0) noStep 0
     (done (k - 1)))
 
-unfoldable pub tallyOf : List ℕ → ℕ → Mesh → ℕ → Call → Judged ℕ
-tallyOf t shadings base k up = tallyUp t shadings base k
-tallyOf t shadings base k down = tallyDown t k
+-- 02, Ask 6: "01's tally takes a walk as those single steps, and a refused wish as a 9 that leaves k; it answers the walk with the first
+-- refusal's number, or 0 if there is none."
+abbrev pub tallyWalk : List ℕ → ℕ → Mesh → ℕ → List Ask → StepWalk ℕ
+tallyWalk t shadings base k list = walkBy (tallyUp t shadings base) (tallyDown t) k list
 
--- "A refusal leaves k."
-abbrev pub levelAfter : Judged ℕ → ℕ → ℕ
-levelAfter (done j) k = j
-levelAfter (refused n p) k = k
+-- k after a call, a step being a walk of one: "A refusal leaves k."
+abbrev pub levelAfter : List ℕ → ℕ → Mesh → ℕ → Call → ℕ
+levelAfter t shadings base k call = tallyWalk t shadings base k (asked call) .state
+
+-- the tally's answer to a step and to a walk, with the mesh of the k that it leads to
+abbrev pub stepAt : List ℕ → Mesh → ℕ → Judged ℕ → CallAnswer
+stepAt t base k answer = stepAnswer (onDone answer λ j. done (meshAt t base j)) (meshAt t base k)
+
+abbrev pub walkAt : List ℕ → Mesh → StepWalk ℕ → StepWalk Mesh
+walkAt t base w = record { number = w .number; granted = w .granted; state = meshAt t base (w .state) }
+
+unfoldable pub tallyOf : List ℕ → ℕ → Mesh → ℕ → Call → CallAnswer
+tallyOf t shadings base k up = stepAt t base k (tallyUp t shadings base k)
+tallyOf t shadings base k down = stepAt t base k (tallyDown t k)
+tallyOf t shadings base k (walk requests) = ofWalk (asTold (walkAt t base (tallyWalk t shadings base k (asks requests))))
 
 -- the tally's answer to each call, and the mesh then, from k on
-unfoldable pub tally : List ℕ → ℕ → Mesh → ℕ → List Call → List Reply
+unfoldable pub tally : List ℕ → ℕ → Mesh → ℕ → List Call → List CallAnswer
 tally t shadings base k [] = []
-tally t shadings base k (call ∷ calls) =
-    let answer = tallyOf t shadings base k call in
-    reply (onDone answer λ j. done (meshAt t base j)) (meshAt t base k) ∷ tally t shadings base (levelAfter answer k) calls
+tally t shadings base k (call ∷ calls) = tallyOf t shadings base k call ∷ tally t shadings base (levelAfter t shadings base k call) calls
 
 -- k after the list of calls
 unfoldable pub levelEnd : List ℕ → ℕ → Mesh → ℕ → List Call → ℕ
 levelEnd t shadings base k [] = k
-levelEnd t shadings base k (call ∷ calls) = levelEnd t shadings base (levelAfter (tallyOf t shadings base k call) k) calls
+levelEnd t shadings base k (call ∷ calls) = levelEnd t shadings base (levelAfter t shadings base k call) calls

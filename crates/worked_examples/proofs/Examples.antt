@@ -12,7 +12,7 @@ use Rattle.progressive.specs.Mesh.{fits}
 use Rattle.progressive.specs.Rules.{allowedOn, cornerIndex, moveNumbers, newFaceAllowed, numbersAllowed, otherCorner, otherPosition, splitAndOther, splitTriangle}
 use Rattle.progressive.specs.Laying.{clearAfter, laid, laidFaces, laidPositions, newFaceField, newFaceNumber, showsStep, undone, undoneFaces, undonePositions}
 use Rattle.progressive.specs.Steps.{coarsened, coarsenedBy, countsAgree, levelOf, refined, refinedBy}
-use Rattle.progressive_theorems.specs.Calls.{judgedBy, replies}
+use Rattle.progressive_theorems.specs.Calls.{answerTo, replies}
 use Rattle.worked_examples.specs.Row.{AllHold}
 use Rattle.worked_examples.specs.Table.{table}
 
@@ -21,5 +21,5 @@ pub examples : AllHold table
 unfolding afterStep afterSymbol afterSymbols callWrite dynamicAfter dynamicNumber dynamicSpans histogramFormed limitsFormed narrow padded plainSpans
     postpones putBit putBits raised reversed settleTops settledBits spanOf staticSpans storeBits sum symbolBits symbolsBits thinned topBits
     write writeCalls writeDynamic writeFault writeNumber writeStatic writerFormed writtenHistogram
-    replies judgedBy refined refinedBy coarsened coarsenedBy levelOf countsAgree stepOffset facesBefore stepFormed wellFormed cornerIndex newFaceField newFaceNumber fits otherPosition otherCorner splitAndOther splitTriangle moveNumbers newFaceAllowed numbersAllowed allowedOn clearAfter laid laidFaces laidPositions showsStep undone undoneFaces undonePositions
+    replies answerTo refined refinedBy coarsened coarsenedBy levelOf countsAgree stepOffset facesBefore stepFormed wellFormed cornerIndex newFaceField newFaceNumber fits otherPosition otherCorner splitAndOther splitTriangle moveNumbers newFaceAllowed numbersAllowed allowedOn clearAfter laid laidFaces laidPositions showsStep undone undoneFaces undonePositions
 examples = (refl, (refl, (refl, (refl, (refl, (refl, (refl, (refl, (refl, tt)))))))))

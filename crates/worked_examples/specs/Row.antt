@@ -13,7 +13,7 @@ use Rattle.mesh.specs.Corners.{absent, cornerFields, faceWords}
 use Rattle.mesh.specs.Base.{positionWords}
 use Rattle.progressive.specs.Mesh.{Mesh}
 use Rattle.progressive.specs.Steps.{Reply}
-use Rattle.progressive_theorems.specs.Calls.{Call, replies}
+use Rattle.progressive_theorems.specs.Calls.{Call, ofStep, replies}
 
 -- ---- the coder
 
@@ -88,7 +88,7 @@ IsLast a (b ∷ (c ∷ more)) = IsLast a (c ∷ more)
 abbrev pub Holds : Row → Type 0
 Holds (reversal bytes reversals) = map (reversed 8) bytes ≡ reversals
 Holds (writes numbers wrote) = IsLast (callOf wrote) (map (λ (c : Called). c .call) (writeCalls (begun buffer (freshHistogram ∷ [])) (map put numbers)))
-Holds (steps calls answer) = IsLast answer (replies exampleList 2 triangle calls)
+Holds (steps calls answer) = IsLast (ofStep answer) (replies exampleList 2 triangle calls)
 
 abbrev pub AllHold : List Row → Type 0
 AllHold [] = Unit {0}
