@@ -5,5 +5,6 @@ pub mod Following
 pub mod BaseRead
 pub mod CallList
 pub mod InWords
+pub mod Singles
 pub mod Triangle
 pub mod TextFormed
