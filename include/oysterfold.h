@@ -12,7 +12,8 @@
  *    6  a block type that is not known
  *    7  a chain too deep, not filled exactly, of a type above 2, or with attributes
  *    8  a name above 255 bytes, or a continuation's name unlike its declaration's
- *    9  above 16 MiB; in a file, a count above its limit, or bones
+ *    9  above 16 MiB; in a file, a count above its limit, or bones; a request of more than 4,096
+ *       steps, or neither up nor down
  *   10  a number not below its count or range; range 0; a dynamic value above 255
  *   11  blocks out of order, chain index not 0, base counts unlike the declaration's
  *   12  what was lent can't hold the result
@@ -31,8 +32,10 @@
  * `result` takes what the call gives back, place first; on a refusal the place and every other
  * word of it 0 (a refused mesh also tells its part). Shorter than stated, the answer is 12, before
  * all else, and nothing is changed. Tables, buffers, state and counts arrays change only on answer
- * 0. Words past those stated are never touched. The place is the offending field's byte offset,
- * for a climb text the line from 1, and 0 where there is none (12 always).
+ * 0. oysterfold_steps alone is excepted: refused, it keeps the steps granted before, in tables and
+ * counts, and its result tells their number. Words past those stated are never touched. The place
+ * is the offending field's byte offset, for a climb text the line from 1, and 0 where there is none
+ * (12 always).
  */
 #ifndef OYSTERFOLD_H
 #define OYSTERFOLD_H
@@ -168,6 +171,26 @@ uint32_t oysterfold_up(const uint32_t *list, size_t list_len, uint32_t shadings,
 uint32_t oysterfold_down(const uint32_t *list, size_t list_len, uint32_t shadings,
                          uint32_t *faces, size_t faces_len, uint32_t *positions,
                          size_t positions_len, uint32_t *counts, size_t counts_len);
+
+/* What a walk is asked for: so many steps in one direction, 0 up or 1 down. */
+typedef struct { uint32_t direction, count; } oysterfold_request;
+
+/*
+ * A walk: the steps of all requests, taken one at a time as oysterfold_up and oysterfold_down take
+ * them; it stops at the first refusal. A request with a count above 4,096, or with a direction
+ * other than 0 and 1, is 9 when its turn comes, and nothing of it is done. No requests, or requests
+ * of 0 steps up or down, are done with any list and tables. In this call only, a refusal keeps the
+ * steps granted before: tables and counts are those after the granted steps, and the result tells
+ * their number, ups and downs together, on refusals too. Fewer than two counts are 12, before all
+ * else but a result that is too short: the result is 0 0 then, and nothing else changes.
+ * result: place (always 0), granted steps modulo 2^64.
+ * Answers 0, 9 (for each request), 13, 15, 16, 12, 14, 18 (for each step), judged in this order.
+ */
+uint32_t oysterfold_steps(const uint32_t *list, size_t list_len, uint32_t shadings,
+                          const oysterfold_request *requests, size_t requests_len,
+                          uint32_t *faces, size_t faces_len, uint32_t *positions,
+                          size_t positions_len, uint32_t *counts, size_t counts_len,
+                          uint64_t *result, size_t result_len);
 
 #ifdef __cplusplus
 }

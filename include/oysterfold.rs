@@ -6,6 +6,14 @@
 // A caller uses some of these.
 #![allow(dead_code)]
 
+/// What a walk is asked for: a direction, 0 up or 1 down, and how many steps, at most 4,096.
+#[repr(C)]
+#[derive(Clone, Copy, PartialEq, Eq, Debug)]
+pub struct Request {
+    pub direction: u32,
+    pub count: u32,
+}
+
 extern "C" {
     fn oysterfold_walk(
         file: *const u8,
@@ -144,6 +152,21 @@ extern "C" {
         positions_len: usize,
         counts: *mut u32,
         counts_len: usize,
+    ) -> u32;
+    fn oysterfold_steps(
+        list: *const u32,
+        list_len: usize,
+        shadings: u32,
+        requests: *const Request,
+        requests_len: usize,
+        faces: *mut u32,
+        faces_len: usize,
+        positions: *mut u32,
+        positions_len: usize,
+        counts: *mut u32,
+        counts_len: usize,
+        result: *mut u64,
+        result_len: usize,
     ) -> u32;
 }
 
@@ -390,6 +413,35 @@ pub fn down(
             positions.len(),
             counts.as_mut_ptr(),
             counts.len(),
+        )
+    }
+}
+
+/// A refusal keeps the steps granted before it, in tables and counts, and the result tells their number.
+pub fn steps(
+    list: &[u32],
+    shadings: u32,
+    requests: &[Request],
+    faces: &mut [u32],
+    positions: &mut [u32],
+    counts: &mut [u32],
+    result: &mut [u64],
+) -> u32 {
+    unsafe {
+        oysterfold_steps(
+            list.as_ptr(),
+            list.len(),
+            shadings,
+            requests.as_ptr(),
+            requests.len(),
+            faces.as_mut_ptr(),
+            faces.len(),
+            positions.as_mut_ptr(),
+            positions.len(),
+            counts.as_mut_ptr(),
+            counts.len(),
+            result.as_mut_ptr(),
+            result.len(),
         )
     }
 }
