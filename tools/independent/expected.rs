@@ -1,12 +1,12 @@
 //! What each exported function should do, by the independent program: the same parameters and answers as the library's.
 
 use crate::{
-    COUNT_WORDS, DECLARATION_RESULT_WORDS, MESH_RESULT_WORDS, READER_WORDS, RESULT_WORDS,
+    Request, COUNT_WORDS, DECLARATION_RESULT_WORDS, MESH_RESULT_WORDS, READER_WORDS, RESULT_WORDS,
     WRITER_WORDS,
 };
 use independent::coder::{fresh_histogram, Histogram, State, Writer};
 use independent::refusal::{Refusal, ROOM};
-use independent::steps::Counts;
+use independent::steps::{Counts, Mesh};
 use independent::{blocks, climb, mesh, steps};
 
 /// A declaration starts with its name's U16 length.
@@ -261,17 +261,26 @@ pub fn read_plain(state: &mut [u64], data: &[u8], bytes: u32, result: &mut [u64]
     with_reader(state, result, |reader| reader.read_plain(data, bytes))
 }
 
-/// Up or down, with counts that are lent as words.
-fn with_counts(counts: &mut [u32], call: impl FnOnce(&mut Counts) -> Result<(), u32>) -> u32 {
+/// A call on a mesh whose counts are lent as words.
+fn with_mesh(
+    faces: &mut [u32],
+    positions: &mut [u32],
+    counts: &mut [u32],
+    call: impl FnOnce(&mut Mesh) -> Result<(), u32>,
+) -> u32 {
     if counts.len() < COUNT_WORDS {
         return ROOM;
     }
-    let mut present = Counts {
-        positions: counts[0],
-        faces: counts[1],
+    let mut mesh = Mesh {
+        faces,
+        positions,
+        counts: Counts {
+            positions: counts[0],
+            faces: counts[1],
+        },
     };
-    let number = number_of(call(&mut present));
-    counts[..COUNT_WORDS].copy_from_slice(&[present.positions, present.faces]);
+    let number = number_of(call(&mut mesh));
+    counts[..COUNT_WORDS].copy_from_slice(&[mesh.counts.positions, mesh.counts.faces]);
     number
 }
 
@@ -282,8 +291,8 @@ pub fn up(
     positions: &mut [u32],
     counts: &mut [u32],
 ) -> u32 {
-    with_counts(counts, |present| {
-        steps::up(list, shadings, faces, positions, present)
+    with_mesh(faces, positions, counts, |mesh| {
+        steps::up(list, shadings, mesh)
     })
 }
 
@@ -294,7 +303,32 @@ pub fn down(
     positions: &mut [u32],
     counts: &mut [u32],
 ) -> u32 {
-    with_counts(counts, |present| {
-        steps::down(list, shadings, faces, positions, present)
+    with_mesh(faces, positions, counts, |mesh| {
+        steps::down(list, shadings, mesh)
+    })
+}
+
+/// The steps granted before a refusal stay, and their number is told.
+pub fn steps(
+    list: &[u32],
+    shadings: u32,
+    requests: &[Request],
+    faces: &mut [u32],
+    positions: &mut [u32],
+    counts: &mut [u32],
+    result: &mut [u64],
+) -> u32 {
+    if result.len() < RESULT_WORDS {
+        return ROOM;
+    }
+    result[..RESULT_WORDS].fill(0);
+    let requests = requests.iter().map(|request| steps::Request {
+        direction: request.direction,
+        count: request.count,
+    });
+    with_mesh(faces, positions, counts, |mesh| {
+        let (granted, answer) = steps::walk(list, shadings, requests, mesh);
+        result[1] = granted;
+        answer
     })
 }

@@ -29,7 +29,8 @@ pub const BLOCK_TYPE: u32 = 6;
 pub const CHAIN: u32 = 7;
 /// A name too long, or unlike its declaration's.
 pub const NAME: u32 = 8;
-/// A length or count above its limit, or a bone count that isn't 0.
+/// A length or count above its limit, a bone count that isn't 0, or a request
+/// neither up nor down.
 pub const LIMIT: u32 = 9;
 /// A coded value outside its range.
 pub const VALUE: u32 = 10;
@@ -58,6 +59,7 @@ pub const MAX_SHADINGS: usize = 64;
 pub const MAX_NAME: usize = 255;
 /// Levels of modifier chains.
 pub const MAX_LEVELS: u32 = 4;
+/// Steps of a list, and of a request.
 pub const MAX_STEPS: u32 = 4_096;
 /// Moves in a step.
 pub const MAX_MOVES: u32 = 64;

@@ -4,6 +4,8 @@ pub mod expected;
 #[path = "../../include/oysterfold.rs"]
 pub mod library;
 
+pub use library::Request;
+
 /// Words of a result: place and one other; of a declaration's; of a mesh's.
 pub const RESULT_WORDS: usize = 2;
 pub const DECLARATION_RESULT_WORDS: usize = 4;
@@ -21,6 +23,8 @@ pub type MeshReading = fn(&[u8], &[u8], [&mut [u32]; 6], &mut [u64]) -> u32;
 pub type DynamicReading = fn(&mut [u64], &[u8], &mut [u32], &mut [u64]) -> u32;
 /// One step, with list, shading count, faces, positions and counts.
 pub type Step = fn(&[u32], u32, &mut [u32], &mut [u32], &mut [u32]) -> u32;
+/// A walk, with list, shading count, requests, faces, positions, counts and result.
+pub type Steps = fn(&[u32], u32, &[Request], &mut [u32], &mut [u32], &mut [u32], &mut [u64]) -> u32;
 
 /// Each answers the number; parameters are those of the exported function.
 pub struct Side {
@@ -41,6 +45,7 @@ pub struct Side {
     pub read_climb: Reading<u32>,
     pub up: Step,
     pub down: Step,
+    pub steps: Steps,
 }
 
 macro_rules! side {
@@ -63,6 +68,7 @@ macro_rules! side {
             read_climb: $module::read_climb,
             up: $module::up,
             down: $module::down,
+            steps: $module::steps,
         }
     };
 }

@@ -1,9 +1,14 @@
-//! The steps of a step table, laid on a mesh and taken back.
+//! The steps of a step table, laid on a mesh and taken back: one at a time, or
+//! as many as a walk is asked for.
 
 use crate::refusal::{
-    judge, ABSENT, CORNER, CORNERS, COUNTS, FACE, FORM, MAX_MOVES, MAX_NEW_FACES, MAX_RECORDS,
-    MAX_STEPS, NO_STEP, POSITION, ROOM, STATE, STEP,
+    judge, ABSENT, CORNER, CORNERS, COUNTS, FACE, FORM, LIMIT, MAX_MOVES, MAX_NEW_FACES,
+    MAX_RECORDS, MAX_STEPS, NO_STEP, POSITION, ROOM, STATE, STEP,
 };
+
+/// The directions of a request.
+pub const UP: u32 = 0;
+pub const DOWN: u32 = 1;
 
 /// The present counts.
 #[derive(Clone, Copy, PartialEq, Eq, Debug)]
@@ -12,72 +17,144 @@ pub struct Counts {
     pub faces: u32,
 }
 
+/// What a walk is asked for: so many steps in one direction.
+#[derive(Clone, Copy, PartialEq, Eq, Debug)]
+pub struct Request {
+    pub direction: u32,
+    pub count: u32,
+}
+
+/// The tables that steps change, and the present counts.
+pub struct Mesh<'a> {
+    pub faces: &'a mut [u32],
+    pub positions: &'a mut [u32],
+    pub counts: Counts,
+}
+
 /// Lays the next vertex split on the mesh. A refusal changes nothing.
-pub fn up(
-    list: &[u32],
-    shadings: u32,
-    faces: &mut [u32],
-    positions: &mut [u32],
-    counts: &mut Counts,
-) -> Result<(), u32> {
-    let neighbours = Neighbours::find(list, *counts)?;
+pub fn up(list: &[u32], shadings: u32, mesh: &mut Mesh) -> Result<(), u32> {
+    let neighbours = Neighbours::find(list, mesh.counts)?;
     let step = neighbours.next.ok_or(NO_STEP)?;
-    let before = *counts;
-    let after = step.after(before);
-    judge_room(after, faces, positions)?;
-    step.judge_numbers(shadings, before)?;
-    judge(step.corners_hold(faces, step.split), STEP)?;
-    let new = NewRecords { before, after };
-    let clear = is_zero(&positions[new.position()]) && is_zero(&faces[new.faces()]);
-    judge(clear, STATE)?;
-    positions[new.position()].copy_from_slice(&step.point);
-    step.set_corners(faces, before.positions);
-    let records = faces[new.faces()].chunks_exact_mut(FACE);
-    for (record, face) in records.zip(step.faces) {
-        record.copy_from_slice(&face_record(face));
-    }
-    *counts = after;
-    Ok(())
+    mesh.lay(&step, shadings)
 }
 
 /// Takes the last vertex split back. A refusal changes nothing.
-pub fn down(
+pub fn down(list: &[u32], shadings: u32, mesh: &mut Mesh) -> Result<(), u32> {
+    let neighbours = Neighbours::find(list, mesh.counts)?;
+    let step = neighbours.last.ok_or(NO_STEP)?;
+    mesh.take_back(&step, shadings)
+}
+
+/// Takes the requested steps one at a time, up to the first refusal, which
+/// keeps the steps before it. Gives how many were granted, modulo 2^64, too.
+pub fn walk(
     list: &[u32],
     shadings: u32,
-    faces: &mut [u32],
-    positions: &mut [u32],
-    counts: &mut Counts,
-) -> Result<(), u32> {
-    let neighbours = Neighbours::find(list, *counts)?;
-    let step = neighbours.last.ok_or(NO_STEP)?;
-    let after = *counts;
-    let before = step.before(after);
-    judge_room(after, faces, positions)?;
-    step.judge_numbers(shadings, before)?;
-    let new = NewRecords { before, after };
-    let shown = positions[new.position()] == step.point
-        && step.corners_hold(faces, before.positions)
-        && step.shows_faces(&faces[new.faces()]);
-    judge(shown, STATE)?;
-    positions[new.position()].fill(0);
-    step.set_corners(faces, step.split);
-    faces[new.faces()].fill(0);
-    *counts = before;
-    Ok(())
+    requests: impl IntoIterator<Item = Request>,
+    mesh: &mut Mesh,
+) -> (u64, Result<(), u32>) {
+    let mut walk = Walk {
+        list,
+        levels: None,
+        shadings,
+        mesh,
+        granted: 0,
+    };
+    let mut requests = requests.into_iter();
+    let answer = requests.try_for_each(|request| walk.take(request));
+    (walk.granted, answer)
+}
+
+/// A walk under way.
+struct Walk<'a, 'm> {
+    list: &'a [u32],
+    /// What the list says, once a step was asked for.
+    levels: Option<Levels<'a>>,
+    shadings: u32,
+    mesh: &'a mut Mesh<'m>,
+    granted: u64,
+}
+
+impl Walk<'_, '_> {
+    fn take(&mut self, request: Request) -> Result<(), u32> {
+        let known = matches!(request.direction, UP | DOWN);
+        judge(known && request.count <= MAX_STEPS, LIMIT)?;
+        for _ in 0..request.count {
+            self.step(request.direction)?;
+            self.granted = self.granted.wrapping_add(1);
+        }
+        Ok(())
+    }
+
+    fn step(&mut self, direction: u32) -> Result<(), u32> {
+        let levels = match &self.levels {
+            Some(levels) => levels,
+            None => self.levels.insert(Levels::read(self.list)?),
+        };
+        let level = levels.level_of(self.mesh.counts)?;
+        if direction == UP {
+            let next = levels.steps.get(level).ok_or(NO_STEP)?;
+            self.mesh.lay(next, self.shadings)
+        } else {
+            let last = level.checked_sub(1).ok_or(NO_STEP)?;
+            self.mesh.take_back(&levels.steps[last], self.shadings)
+        }
+    }
+}
+
+impl Mesh<'_> {
+    /// Lays a step at the present counts, or refuses it and changes nothing.
+    fn lay(&mut self, step: &Step, shadings: u32) -> Result<(), u32> {
+        let before = self.counts;
+        let after = step.after(before);
+        self.judge_room(after)?;
+        step.judge_numbers(shadings, before)?;
+        judge(step.corners_hold(self.faces, step.split), STEP)?;
+        let new = NewRecords { before, after };
+        let clear = is_zero(&self.positions[new.position()]) && is_zero(&self.faces[new.faces()]);
+        judge(clear, STATE)?;
+        self.positions[new.position()].copy_from_slice(&step.point);
+        step.set_corners(self.faces, before.positions);
+        let records = self.faces[new.faces()].chunks_exact_mut(FACE);
+        for (record, face) in records.zip(step.faces) {
+            record.copy_from_slice(&face_record(face));
+        }
+        self.counts = after;
+        Ok(())
+    }
+
+    /// Takes back the step that led to the present counts, or refuses it and
+    /// changes nothing.
+    fn take_back(&mut self, step: &Step, shadings: u32) -> Result<(), u32> {
+        let after = self.counts;
+        let before = step.before(after);
+        self.judge_room(after)?;
+        step.judge_numbers(shadings, before)?;
+        let new = NewRecords { before, after };
+        let shown = self.positions[new.position()] == step.point
+            && step.corners_hold(self.faces, before.positions)
+            && step.shows_faces(&self.faces[new.faces()]);
+        judge(shown, STATE)?;
+        self.positions[new.position()].fill(0);
+        step.set_corners(self.faces, step.split);
+        self.faces[new.faces()].fill(0);
+        self.counts = before;
+        Ok(())
+    }
+
+    /// 12 where counts pass their limit or don't fit the tables. The counts
+    /// after a step are the larger ones, so they decide for both.
+    fn judge_room(&self, after: Counts) -> Result<(), u32> {
+        let fits = after.positions <= MAX_RECORDS
+            && after.faces <= MAX_RECORDS
+            && after.positions as usize * POSITION <= self.positions.len()
+            && after.faces as usize * FACE <= self.faces.len();
+        judge(fits, ROOM)
+    }
 }
 
 fn is_zero(words: &[u32]) -> bool {
     words.iter().all(|&word| word == 0)
-}
-
-/// 12 where counts pass their limit or don't fit the tables. The counts after
-/// a step are the larger ones, so they decide for both.
-fn judge_room(after: Counts, faces: &[u32], positions: &[u32]) -> Result<(), u32> {
-    let fits = after.positions <= MAX_RECORDS
-        && after.faces <= MAX_RECORDS
-        && after.positions as usize * POSITION <= positions.len()
-        && after.faces as usize * FACE <= faces.len();
-    judge(fits, ROOM)
 }
 
 /// The new records of a step: those from the counts before it on.
@@ -193,6 +270,39 @@ fn corner_index([face, corner]: [u32; 2]) -> usize {
     face as usize * FACE + 1 + corner as usize * CORNER
 }
 
+/// The numbers at a list's start: the base counts, and how many steps follow.
+struct Head {
+    base: Counts,
+    steps: u32,
+}
+
+impl Head {
+    /// The head, and the words after it; 13 where there is none or a limit is
+    /// passed.
+    fn parse(list: &[u32]) -> Result<(Head, &[u32]), u32> {
+        let (&[positions, faces, steps], rest) = list.split_first_chunk().ok_or(FORM)?;
+        let formed = positions <= MAX_RECORDS && faces <= MAX_RECORDS && steps <= MAX_STEPS;
+        judge(formed, FORM)?;
+        let base = Counts { positions, faces };
+        Ok((Head { base, steps }, rest))
+    }
+
+    /// Hands on each step of the words after the head; 13 where they are not
+    /// just so many steps.
+    fn each_step<'a>(
+        &self,
+        mut rest: &'a [u32],
+        mut take: impl FnMut(u32, Step<'a>),
+    ) -> Result<(), u32> {
+        for index in 0..self.steps {
+            let (step, after) = Step::parse(rest).ok_or(FORM)?;
+            rest = after;
+            take(index, step);
+        }
+        judge(rest.is_empty(), FORM)
+    }
+}
+
 /// The steps on both sides of the present counts.
 struct Neighbours<'a> {
     last: Option<Step<'a>>,
@@ -200,30 +310,61 @@ struct Neighbours<'a> {
 }
 
 impl<'a> Neighbours<'a> {
-    /// Judges the whole table (13), then the present counts (15).
+    /// Judges the whole list (13), then the present counts (15).
     fn find(list: &'a [u32], counts: Counts) -> Result<Neighbours<'a>, u32> {
-        let (&[base_positions, base_faces, steps], mut rest) =
-            list.split_first_chunk().ok_or(FORM)?;
-        let formed =
-            base_positions <= MAX_RECORDS && base_faces <= MAX_RECORDS && steps <= MAX_STEPS;
-        judge(formed, FORM)?;
-        let present = counts.positions.checked_sub(base_positions);
-        let mut faces = base_faces;
+        let (head, rest) = Head::parse(list)?;
+        let present = counts.positions.checked_sub(head.base.positions);
+        let mut faces = head.base.faces;
         let (mut last, mut next) = (None, None);
-        for index in 0..steps {
-            let (step, after) = Step::parse(rest).ok_or(FORM)?;
-            rest = after;
+        head.each_step(rest, |index, step| {
             if present == Some(index) {
                 next = Some(step);
             } else if present > Some(index) {
                 last = Some(step);
                 faces += step.faces.len() as u32;
             }
-        }
-        judge(rest.is_empty(), FORM)?;
-        let agree = present.is_some_and(|present| present <= steps) && faces == counts.faces;
+        })?;
+        let agree = present.is_some_and(|present| present <= head.steps) && faces == counts.faces;
         judge(agree, COUNTS)?;
         Ok(Neighbours { last, next })
+    }
+}
+
+/// All steps of a list, and how many faces there are at each level.
+struct Levels<'a> {
+    base_positions: u32,
+    steps: Vec<Step<'a>>,
+    /// One more than steps.
+    faces: Vec<u32>,
+}
+
+impl<'a> Levels<'a> {
+    /// Judges the whole list (13).
+    fn read(list: &'a [u32]) -> Result<Levels<'a>, u32> {
+        let (head, rest) = Head::parse(list)?;
+        let mut steps = Vec::with_capacity(head.steps as usize);
+        let mut faces = Vec::with_capacity(head.steps as usize + 1);
+        let mut present = head.base.faces;
+        head.each_step(rest, |_, step| {
+            faces.push(present);
+            present += step.faces.len() as u32;
+            steps.push(step);
+        })?;
+        faces.push(present);
+        Ok(Levels {
+            base_positions: head.base.positions,
+            steps,
+            faces,
+        })
+    }
+
+    /// How many steps are laid at these counts; 15 where they disagree with
+    /// the list.
+    fn level_of(&self, counts: Counts) -> Result<usize, u32> {
+        let above = counts.positions.checked_sub(self.base_positions);
+        let level = above.ok_or(COUNTS)? as usize;
+        judge(self.faces.get(level) == Some(&counts.faces), COUNTS)?;
+        Ok(level)
     }
 }
 
@@ -249,48 +390,94 @@ mod tests {
         3,
     ];
 
+    const BASE: Counts = Counts {
+        positions: 3,
+        faces: 1,
+    };
+    const TOP: Counts = Counts {
+        positions: 4,
+        faces: 2,
+    };
+
+    /// The base mesh, with room for the step.
+    #[derive(Clone, PartialEq, Debug)]
+    struct Tables {
+        faces: Vec<u32>,
+        positions: Vec<u32>,
+        counts: Counts,
+    }
+
+    impl Tables {
+        fn new() -> Tables {
+            let mut faces = vec![0; 2 * FACE];
+            faces[..FACE].copy_from_slice(&face_record(&[0, 0, 1, 2]));
+            let mut positions = vec![0; 4 * POSITION];
+            positions[..9].fill(5);
+            Tables {
+                faces,
+                positions,
+                counts: BASE,
+            }
+        }
+
+        fn with<T>(&mut self, call: impl FnOnce(&mut Mesh) -> T) -> T {
+            let mut mesh = Mesh {
+                faces: &mut self.faces,
+                positions: &mut self.positions,
+                counts: self.counts,
+            };
+            let given = call(&mut mesh);
+            self.counts = mesh.counts;
+            given
+        }
+
+        fn up(&mut self, list: &[u32]) -> Result<(), u32> {
+            self.with(|mesh| up(list, 2, mesh))
+        }
+
+        fn down(&mut self, list: &[u32]) -> Result<(), u32> {
+            self.with(|mesh| down(list, 2, mesh))
+        }
+
+        /// A walk by directions and counts.
+        fn walk(&mut self, list: &[u32], requests: &[(u32, u32)]) -> (u64, Result<(), u32>) {
+            let requests = requests
+                .iter()
+                .map(|&(direction, count)| Request { direction, count });
+            self.with(|mesh| walk(list, 2, requests, mesh))
+        }
+    }
+
     #[test]
     fn example() {
-        let mut faces = [0; 2 * FACE];
-        faces[..FACE].copy_from_slice(&face_record(&[0, 0, 1, 2]));
-        let mut positions = [0; 4 * POSITION];
-        positions[..9].fill(5);
-        let base = (faces, positions);
-        let mut counts = Counts {
-            positions: 3,
-            faces: 1,
-        };
-        let wrong = up(&EXAMPLE, 1, &mut faces, &mut positions, &mut counts);
+        let mut tables = Tables::new();
+        let wrong = tables.with(|mesh| up(&EXAMPLE, 1, mesh));
         assert_eq!(wrong, Err(STEP));
-        assert_eq!(
-            up(&EXAMPLE, 2, &mut faces, &mut positions, &mut counts),
-            Ok(())
-        );
-        assert_eq!((counts.positions, counts.faces), (4, 2));
-        assert_eq!(faces[..FACE], face_record(&[0, 0, 1, 3]));
-        assert_eq!(faces[FACE..], face_record(&[1, 1, 2, 3]));
-        assert_eq!(positions[9..], EXAMPLE[4..7]);
-        let done = up(&EXAMPLE, 2, &mut faces, &mut positions, &mut counts);
-        assert_eq!(done, Err(NO_STEP));
-        assert_eq!(
-            down(&EXAMPLE, 2, &mut faces, &mut positions, &mut counts),
-            Ok(())
-        );
-        assert_eq!((faces, positions), base);
-        let base = down(&EXAMPLE, 2, &mut faces, &mut positions, &mut counts);
-        assert_eq!(base, Err(NO_STEP));
+        assert_eq!(tables, Tables::new());
+        assert_eq!(tables.up(&EXAMPLE), Ok(()));
+        assert_eq!(tables.counts, TOP);
+        assert_eq!(tables.faces[..FACE], face_record(&[0, 0, 1, 3]));
+        assert_eq!(tables.faces[FACE..], face_record(&[1, 1, 2, 3]));
+        assert_eq!(tables.positions[9..], EXAMPLE[4..7]);
+        assert_eq!(tables.up(&EXAMPLE), Err(NO_STEP));
+        assert_eq!(tables.down(&EXAMPLE), Ok(()));
+        assert_eq!(tables, Tables::new());
+        assert_eq!(tables.down(&EXAMPLE), Err(NO_STEP));
     }
 
     #[test]
     fn refusals() {
         let answer = |list: &[u32], room: usize, positions: u32, faces: u32| {
-            let mut counts = Counts { positions, faces };
-            let mut table = vec![0; room * FACE];
-            table[..FACE].copy_from_slice(&face_record(&[0, 0, 1, 2]));
-            up(list, 2, &mut table, &mut [0; 12], &mut counts)
+            let mut tables = Tables::new();
+            tables.faces.truncate(room * FACE);
+            tables.counts = Counts { positions, faces };
+            let single = tables.clone().up(list);
+            assert_eq!(tables.walk(list, &[(UP, 1)]), (0, single));
+            single
         };
         assert_eq!(answer(&EXAMPLE[..14], 2, 3, 1), Err(FORM));
         assert_eq!(answer(&EXAMPLE, 2, 2, 1), Err(COUNTS));
+        assert_eq!(answer(&EXAMPLE, 2, 3, 2), Err(COUNTS));
         assert_eq!(answer(&EXAMPLE, 2, 5, 2), Err(COUNTS));
         assert_eq!(answer(&EXAMPLE, 2, u32::MAX, u32::MAX), Err(COUNTS));
         assert_eq!(answer(&EXAMPLE, 1, 3, 1), Err(ROOM));
@@ -299,5 +486,90 @@ mod tests {
         let mut third = EXAMPLE;
         third[12] = 2;
         assert_eq!(answer(&third, 2, 3, 1), Err(STEP));
+    }
+
+    #[test]
+    fn walks_without_steps() {
+        let broken = &EXAMPLE[..14];
+        let mut tables = Tables::new();
+        tables.counts.faces = 9;
+        let lent = tables.clone();
+        for list in [broken, &EXAMPLE, &[]] {
+            assert_eq!(tables.walk(list, &[]), (0, Ok(())));
+            assert_eq!(tables.walk(list, &[(UP, 0), (DOWN, 0)]), (0, Ok(())));
+        }
+        assert_eq!(tables.walk(broken, &[(UP, 0), (UP, 1)]), (0, Err(FORM)));
+        assert_eq!(tables.walk(&EXAMPLE, &[(DOWN, 1)]), (0, Err(COUNTS)));
+        assert_eq!(tables, lent);
+    }
+
+    #[test]
+    fn refused_requests() {
+        let mut tables = Tables::new();
+        for request in [(2, 0), (2, 1), (u32::MAX, 0), (UP, 4_097), (DOWN, u32::MAX)] {
+            assert_eq!(tables.walk(&EXAMPLE, &[request]), (0, Err(LIMIT)));
+            assert_eq!(tables.walk(&[], &[request, (UP, 1)]), (0, Err(LIMIT)));
+        }
+        assert_eq!(tables, Tables::new());
+        let middle = [(UP, 1), (DOWN, 1), (UP, 1), (UP, 4_097), (DOWN, 1)];
+        assert_eq!(tables.walk(&EXAMPLE, &middle), (3, Err(LIMIT)));
+        assert_eq!(tables.counts, TOP);
+        let down = tables.down(&EXAMPLE);
+        assert_eq!((down, tables), (Ok(()), Tables::new()));
+    }
+
+    #[test]
+    fn most_steps_of_a_request() {
+        let mut list = vec![3, 1, 4_096];
+        for split in 2..2 + 4_096 {
+            list.extend([split, 0, 0, 0, 0, 0]);
+        }
+        let mut tables = Tables::new();
+        tables.positions.resize((3 + 4_096) * POSITION, 0);
+        let lent = tables.clone();
+        assert_eq!(tables.walk(&list, &[(UP, 4_096)]), (4_096, Ok(())));
+        assert_eq!(tables.counts.positions, 3 + 4_096);
+        let ups_and_downs = [(DOWN, 4_096), (UP, 3), (DOWN, 3), (UP, 4_097)];
+        assert_eq!(tables.walk(&list, &ups_and_downs), (4_102, Err(LIMIT)));
+        assert_eq!(tables, lent);
+    }
+
+    /// The single calls of a walk, up to the first refusal.
+    fn one_at_a_time(
+        tables: &mut Tables,
+        list: &[u32],
+        requests: &[(u32, u32)],
+    ) -> (u64, Result<(), u32>) {
+        let mut granted = 0;
+        for &(direction, count) in requests {
+            for _ in 0..count {
+                let answer = match direction {
+                    UP => tables.up(list),
+                    _ => tables.down(list),
+                };
+                if answer.is_err() {
+                    return (granted, answer);
+                }
+                granted += 1;
+            }
+        }
+        (granted, Ok(()))
+    }
+
+    #[test]
+    fn walk_is_its_single_calls() {
+        let walks: [&[(u32, u32)]; 5] = [
+            &[(UP, 1)],
+            &[(UP, 1), (DOWN, 1), (UP, 1)],
+            &[(UP, 2), (DOWN, 1)],
+            &[(UP, 1), (UP, 0), (DOWN, 2), (UP, 1)],
+            &[(DOWN, 1)],
+        ];
+        for requests in walks {
+            let (mut walked, mut stepped) = (Tables::new(), Tables::new());
+            let given = walked.walk(&EXAMPLE, requests);
+            assert_eq!(given, one_at_a_time(&mut stepped, &EXAMPLE, requests));
+            assert_eq!(walked, stepped);
+        }
     }
 }
