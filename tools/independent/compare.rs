@@ -1,8 +1,9 @@
 //! Compares the library with the independent program on inputs made from a seed: `compare [COUNT [SEED]]`.
 //!
 //! Each input goes through both, into tables that are filled with the same pattern. Number, place, every other word of the result, and
-//! all that was lent must be equal to its very end and a little past it; a refusal must leave what was lent. Large cases that are always
-//! the same come first. The run ends at the first difference, by index.
+//! all that was lent must be equal to its very end and a little past it; a refusal must leave what was lent, but for the steps that a walk
+//! was granted before. A walk must equal its single steps, too. Large cases that are always the same come first. The run ends at the first
+//! difference, by index.
 
 mod call;
 mod kinds;

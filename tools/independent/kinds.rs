@@ -8,6 +8,7 @@ pub mod fixed;
 pub mod mesh;
 pub mod sequence;
 mod states;
+mod step_call;
 pub mod steps;
 
 use crate::call::Lent;

@@ -36,6 +36,7 @@ functions! {
     ReadClimb "read_climb"
     Up "up"
     Down "down"
+    Steps "steps"
 }
 
 #[derive(Clone)]

@@ -4,7 +4,7 @@ use super::blocks::{ListingCall, WalkCall};
 use super::climb::ClimbCall;
 use super::coder_call::{CoderCall, Operation};
 use super::mesh::{DeclarationCall, MeshCall};
-use super::steps::StepCall;
+use super::step_call::{take, Asked, StepCall};
 use crate::call::{both, Call, Lent};
 use crate::report::Difference;
 use crate::tally::Tally;
@@ -18,19 +18,23 @@ use independent::random::Random;
 use independent::refusal::{
     FACE, MAX_BYTES, MAX_MOVES, MAX_RECORDS, MAX_SHADINGS, MAX_STEPS, POSITION,
 };
+use independent::steps::{DOWN, UP};
 use sides::{
-    DECLARATION_RESULT_WORDS, MESH_RESULT_WORDS, READER_WORDS, RESULT_WORDS, WRITER_WORDS,
+    Request, COUNT_WORDS, DECLARATION_RESULT_WORDS, MESH_RESULT_WORDS, READER_WORDS, RESULT_WORDS,
+    WRITER_WORDS,
 };
 
 /// Numbers of each table past its records.
 const SPARE: usize = 7;
 const FEW: usize = 64;
+/// Records of a table past the limit.
+const MORE_RECORDS: u32 = 8;
 /// Bytes of text that suffice where so many words suffice for the rows.
 const TEXT_FOR_WORD: usize = 8;
 
 type Case = (&'static str, fn(&mut Tally) -> Result<(), Difference>);
 
-const CASES: [Case; 9] = [
+const CASES: [Case; 13] = [
     ("files about 16 MiB", long_files),
     ("declarations about 16 MiB", long_declarations),
     ("mesh parts about 16 MiB", long_meshes),
@@ -40,6 +44,10 @@ const CASES: [Case; 9] = [
     ("coder buffers about 16 MiB", long_buffers),
     ("climb texts of 4,096 steps", long_climbs),
     ("steps to 65,536", full_steps),
+    ("walks without steps", idle_walks),
+    ("walks with a refused request", refused_requests),
+    ("walks with a refused step", refused_steps),
+    ("walks of 4,096 steps", long_walks),
 ];
 
 pub fn run(tally: &mut Tally) -> Result<(), (&'static str, Difference)> {
@@ -313,37 +321,181 @@ fn long_climbs(tally: &mut Tally) -> Result<(), Difference> {
     climb_gives(0, &list, tally)
 }
 
-/// Up until the faces pass 65,536, then down again to the base.
-fn full_steps(tally: &mut Tally) -> Result<(), Difference> {
-    let ladder = Ladder {
-        base_positions: MAX_RECORDS - 4,
-        base_faces: MAX_RECORDS - 8,
-        shadings: 2,
-        steps: 6,
-        each: 4,
-    };
+/// The base mesh of a ladder, with room for all steps, and for a few records past the limit where they pass it.
+fn step_call(ladder: Ladder) -> StepCall {
     let climb = ladder.climb(&mut Random::of_input(0, 0));
+    let room = |records: u32| records.min(MAX_RECORDS + MORE_RECORDS) as usize;
     let mut call = StepCall {
-        up: true,
+        asked: Asked::Up,
         list: climb.list,
         shadings: climb.shadings,
         faces: Lent::of(&climb.faces),
         positions: Lent::of(&climb.positions),
         counts: Lent::of(&[climb.base_positions, climb.base_faces]),
+        result: Lent::patterned(RESULT_WORDS),
     };
-    call.faces.set_len((MAX_RECORDS as usize + 8) * FACE);
-    call.positions
-        .set_len((MAX_RECORDS as usize + 8) * POSITION);
-    for (up, number) in [
-        (true, 0),
-        (true, 0),
-        (true, 12),
-        (false, 0),
-        (false, 0),
-        (false, 16),
+    call.faces.set_len(room(climb.all_faces) * FACE);
+    let all_positions = climb.base_positions + climb.steps;
+    call.positions.set_len(room(all_positions) * POSITION);
+    call
+}
+
+/// A walk by directions and counts.
+fn walk_of(requests: &[(u32, u32)]) -> Asked {
+    let requests = requests.iter();
+    let requests = requests.map(|&(direction, count)| Request { direction, count });
+    Asked::Walk(requests.collect())
+}
+
+/// The walk must give this number and tell so many steps.
+fn walk_gives(
+    (number, granted): (u32, u64),
+    call: &StepCall,
+    requests: &[(u32, u32)],
+    tally: &mut Tally,
+) -> Result<StepCall, Difference> {
+    let mut call = call.clone();
+    call.asked = walk_of(requests);
+    let (given, after) = take(&call, tally)?;
+    let told = after.result.words()[1];
+    match (given, told) == (number, granted) {
+        true => Ok(after),
+        false => Err(Difference(format!(
+            "both give {given} and {told} steps, not {number} and {granted}"
+        ))),
+    }
+}
+
+/// Up until the faces pass 65,536, then down again to the base; and the same in walks.
+fn full_steps(tally: &mut Tally) -> Result<(), Difference> {
+    let mut call = step_call(Ladder {
+        base_positions: MAX_RECORDS - 4,
+        base_faces: MAX_RECORDS - 8,
+        shadings: 2,
+        steps: 6,
+        each: 4,
+    });
+    for (asked, number) in [
+        (Asked::Up, 0),
+        (Asked::Up, 0),
+        (Asked::Up, 12),
+        (Asked::Down, 0),
+        (Asked::Down, 0),
+        (Asked::Down, 16),
     ] {
-        call.up = up;
+        call.asked = asked;
         call = gives(number, &call, tally)?;
     }
+    let top = walk_gives((12, 2), &call, &[(UP, 6)], tally)?;
+    walk_gives((16, 2), &top, &[(DOWN, 6)], tally).map(drop)
+}
+
+/// So few steps that walks come to both ends.
+const FEW_STEPS: u32 = 3;
+
+fn few_steps() -> StepCall {
+    step_call(Ladder {
+        base_positions: 5,
+        base_faces: 4,
+        shadings: 2,
+        steps: FEW_STEPS,
+        each: 2,
+    })
+}
+
+/// Where no step is asked for, list, counts and tables are not looked at; where one is, they are.
+fn idle_walks(tally: &mut Tally) -> Result<(), Difference> {
+    let formed = few_steps();
+    let mut broken = formed.clone();
+    broken.list.pop();
+    let mut strange = broken.clone();
+    strange.list.clear();
+    strange.counts = Lent::of(&[u32::MAX; COUNT_WORDS]);
+    strange.faces.set_len(0);
+    strange.positions.set_len(0);
+    for call in [formed, broken.clone(), strange] {
+        walk_gives((0, 0), &call, &[], tally)?;
+        walk_gives((0, 0), &call, &[(UP, 0)], tally)?;
+        walk_gives((0, 0), &call, &[(DOWN, 0), (UP, 0)], tally)?;
+        walk_gives((9, 0), &call, &[(DOWN, 0), (2, 0)], tally)?;
+    }
+    walk_gives((13, 0), &broken, &[(UP, 0), (DOWN, 1)], tally).map(drop)
+}
+
+/// Nothing of such a request is done, and the steps before it stay.
+fn refused_requests(tally: &mut Tally) -> Result<(), Difference> {
+    let call = few_steps();
+    for refused in [
+        (2, 0),
+        (2, 1),
+        (u32::MAX, 1),
+        (UP, MAX_STEPS + 1),
+        (DOWN, MAX_STEPS + 1),
+        (UP, u32::MAX),
+    ] {
+        walk_gives((9, 0), &call, &[refused], tally)?;
+        walk_gives((9, 0), &call, &[refused, (UP, 1)], tally)?;
+        let requests = [(UP, 2), (DOWN, 1), (UP, 1), refused, (DOWN, 1)];
+        let kept = walk_gives((9, 4), &call, &requests, tally)?;
+        walk_gives((16, 2), &kept, &[(DOWN, 3), refused], tally)?;
+    }
     Ok(())
+}
+
+/// Each of the other numbers, after steps that stay where there can be some.
+fn refused_steps(tally: &mut Tally) -> Result<(), Difference> {
+    let call = few_steps();
+    let [positions, faces] = [0, 1].map(|at| call.counts.words()[at] as usize);
+    walk_gives((16, 3), &call, &[(UP, MAX_STEPS)], tally)?;
+    walk_gives((16, 6), &call, &[(UP, 3), (DOWN, 4), (UP, 1)], tally)?;
+    let mut miscounted = call.clone();
+    miscounted.counts.lend()[1] += 1;
+    walk_gives((15, 0), &miscounted, &[(UP, 1)], tally)?;
+    let mut narrow = call.clone();
+    narrow.faces.set_len((faces + 5) * FACE);
+    walk_gives((12, 2), &narrow, &[(UP, 3)], tally)?;
+    let mut misled = call.clone();
+    let last_shading = call.list.len() - NEW_FACE_NUMBERS;
+    misled.list[last_shading] = misled.shadings;
+    walk_gives((14, 2), &misled, &[(UP, 3)], tally)?;
+    let mut unclear = call.clone();
+    unclear.positions.lend()[(positions + 2) * POSITION] = 1;
+    walk_gives((18, 2), &unclear, &[(UP, 1), (UP, 2)], tally)?;
+    short_walks(&call, tally)
+}
+
+/// A result that is too short is judged before counts that are, and both before a refused request.
+fn short_walks(call: &StepCall, tally: &mut Tally) -> Result<(), Difference> {
+    for requests in [&[][..], &[(UP, 1)], &[(2, 0)]] {
+        let mut short = call.clone();
+        short.counts.set_len(COUNT_WORDS - 1);
+        walk_gives((12, 0), &short, requests, tally)?;
+        short.asked = walk_of(requests);
+        short.result.set_len(RESULT_WORDS - 1);
+        gives(12, &short, tally)?;
+        short.counts = call.counts.clone();
+        gives(12, &short, tally)?;
+    }
+    Ok(())
+}
+
+/// To the top and back in one request, and in many.
+fn long_walks(tally: &mut Tally) -> Result<(), Difference> {
+    let steps = u64::from(MAX_STEPS);
+    let call = step_call(Ladder {
+        base_positions: 5,
+        base_faces: 4,
+        shadings: 2,
+        steps: MAX_STEPS,
+        each: 1,
+    });
+    let top = walk_gives((0, steps), &call, &[(UP, MAX_STEPS)], tally)?;
+    let back = [(DOWN, MAX_STEPS), (UP, 1), (DOWN, 1)];
+    walk_gives((0, steps + 2), &top, &back, tally)?;
+    walk_gives((16, steps), &call, &[(UP, MAX_STEPS), (UP, 1)], tally)?;
+    let singles = vec![(UP, 1); MAX_STEPS as usize];
+    walk_gives((0, steps), &call, &singles, tally)?;
+    let swings = [(UP, FEW_STEPS), (DOWN, FEW_STEPS)].repeat(MAX_STEPS as usize);
+    let swung = 2 * steps * u64::from(FEW_STEPS);
+    walk_gives((0, swung), &few_steps(), &swings, tally).map(drop)
 }
