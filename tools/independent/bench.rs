@@ -9,5 +9,5 @@ fn main() {
     measures::walk::print_table();
     measures::coder::print_tables();
     measures::mesh::print_tables();
-    measures::steps::print_table();
+    measures::steps::print_tables();
 }

@@ -1,13 +1,14 @@
-//! Steps up and down.
+//! Steps up and down, one a call and in walks.
 //!
-//! Every call judges the whole list anew, so its time grows with the list. Of 4,096 steps with 64 new faces no mesh can hold all; only the
-//! first steps are climbed.
+//! Every call of one step judges the whole list anew, so its time grows with the list. Of 4,096 steps with 64 new faces no mesh can hold
+//! all; only the first steps are climbed. Walks are of many steps, at the bottom of a list and at its top.
 
 use super::{grouped, print_heading, print_row, Best, ROUNDS};
 use independent::files::climb::{Climb, Ladder};
 use independent::random::Random;
-use independent::refusal::{FACE, MAX_RECORDS, POSITION};
-use sides::{Side, Step, COUNT_WORDS, INDEPENDENT, LIBRARY};
+use independent::refusal::{FACE, MAX_RECORDS, MAX_STEPS, POSITION};
+use independent::steps::{DOWN, UP};
+use sides::{Request, Side, Step, COUNT_WORDS, INDEPENDENT, LIBRARY, RESULT_WORDS};
 use std::time::Instant;
 
 /// Steps up, and down again.
@@ -22,6 +23,19 @@ const MICROSECOND: f64 = 1e-6;
 
 /// Moves and new faces of each step, and steps.
 const CASES: [(u32, u32); 4] = [(4, 10), (64, 10), (4, 4096), (64, 4096)];
+
+/// Steps of a walk, and walks up and down in a round.
+const WALKED: u32 = 1_000;
+const WALKS: u32 = 5;
+/// Moves and new faces of each step; the steps below the walk.
+const WALK_CASES: [(u32, u32); 4] = [
+    (4, 0),
+    (4, MAX_STEPS - WALKED),
+    (12, 0),
+    (12, MAX_STEPS - WALKED),
+];
+/// The requests of a walk, all of one length.
+const REQUESTS: [u32; 2] = [1, WALKED];
 
 struct Climber {
     side: Side,
@@ -78,12 +92,82 @@ impl Climber {
         self.up.keep(up / f64::from(times * CLIMBED));
         self.down.keep(down / f64::from(times * CLIMBED));
     }
+
+    /// Seconds of a walk.
+    fn walk(&mut self, list: &[u32], requests: &[Request]) -> f64 {
+        let mut result = [0; RESULT_WORDS];
+        let start = Instant::now();
+        let number = (self.side.steps)(
+            list,
+            SHADINGS,
+            requests,
+            &mut self.faces,
+            &mut self.positions,
+            &mut self.counts,
+            &mut result,
+        );
+        let seconds = start.elapsed().as_secs_f64();
+        let steps: u64 = requests
+            .iter()
+            .map(|request| u64::from(request.count))
+            .sum();
+        assert_eq!((number, result), (0, [0, steps]), "a walk is refused");
+        seconds
+    }
+
+    /// Walks up and down; the mean time of a step counts.
+    fn walk_round(&mut self, list: &[u32], requests: u32) {
+        let [walk_up, walk_down] = [UP, DOWN].map(|way| walk_of(way, WALKED, requests));
+        let (mut up, mut down) = (0.0, 0.0);
+        for _ in 0..WALKS {
+            up += self.walk(list, &walk_up);
+            down += self.walk(list, &walk_down);
+        }
+        self.up.keep(up / f64::from(WALKS * WALKED));
+        self.down.keep(down / f64::from(WALKS * WALKED));
+    }
 }
 
-fn judge(independent: &Climber, library: &Climber) {
-    let counts = independent.counts == library.counts;
-    let tables = independent.faces == library.faces && independent.positions == library.positions;
-    assert!(counts && tables, "the two disagree");
+/// So many steps in like requests.
+fn walk_of(direction: u32, steps: u32, requests: u32) -> Vec<Request> {
+    let count = steps / requests;
+    vec![Request { direction, count }; requests as usize]
+}
+
+/// Both sides, each on tables of its own.
+struct Pair {
+    independent: Climber,
+    library: Climber,
+}
+
+impl Pair {
+    fn new(climb: &Climb) -> Pair {
+        Pair {
+            independent: Climber::new(INDEPENDENT, climb),
+            library: Climber::new(LIBRARY, climb),
+        }
+    }
+
+    /// The same on both sides, which must then agree.
+    fn both<T>(&mut self, run: impl Fn(&mut Climber) -> T) {
+        let Pair {
+            independent,
+            library,
+        } = self;
+        run(independent);
+        run(library);
+        let counts = independent.counts == library.counts;
+        let tables =
+            independent.faces == library.faces && independent.positions == library.positions;
+        assert!(counts && tables, "the two disagree");
+    }
+
+    /// A row: what was measured, then the times up and down.
+    fn print_times(&self, mut cells: Vec<String>) {
+        cells.extend(cells_of(&self.independent.up, &self.library.up));
+        cells.extend(cells_of(&self.independent.down, &self.library.down));
+        print_row(&cells);
+    }
 }
 
 /// Both times in microseconds, and their ratio.
@@ -92,7 +176,11 @@ fn cells_of(independent: &Best, library: &Best) -> [String; 3] {
     [due / MICROSECOND, given / MICROSECOND, given / due].map(|cell| format!("{cell:.2}"))
 }
 
-fn run_case((each, steps): (u32, u32)) {
+fn number_cell(number: u32) -> String {
+    grouped(u64::from(number))
+}
+
+fn ladder(each: u32, steps: u32) -> Climb {
     let ladder = Ladder {
         base_positions: BASE_POSITIONS,
         base_faces: BASE_FACES,
@@ -100,43 +188,66 @@ fn run_case((each, steps): (u32, u32)) {
         steps,
         each,
     };
-    let climb = ladder.climb(&mut Random::of_input(0, 0));
-    let (mut independent, mut library) = (
-        Climber::new(INDEPENDENT, &climb),
-        Climber::new(LIBRARY, &climb),
-    );
-    let times = 1 + JUDGED / steps / CLIMBED;
-    for _ in 0..ROUNDS {
-        independent.round(&climb.list, times);
-        library.round(&climb.list, times);
-        judge(&independent, &library);
-    }
-    independent.climb(INDEPENDENT.up, &climb.list);
-    library.climb(LIBRARY.up, &climb.list);
-    judge(&independent, &library);
-    let mut cells = vec![
-        each.to_string(),
-        grouped(u64::from(steps)),
-        grouped(climb.list.len() as u64),
-    ];
-    cells.extend(cells_of(&independent.up, &library.up));
-    cells.extend(cells_of(&independent.down, &library.down));
-    print_row(&cells);
+    ladder.climb(&mut Random::of_input(0, 0))
 }
 
-pub fn print_table() {
+fn run_case((each, steps): (u32, u32)) {
+    let climb = ladder(each, steps);
+    let list = &climb.list;
+    let mut pair = Pair::new(&climb);
+    let times = 1 + JUDGED / steps / CLIMBED;
+    for _ in 0..ROUNDS {
+        pair.both(|climber| climber.round(list, times));
+    }
+    pair.both(|climber| climber.climb(climber.side.up, list));
+    pair.print_times(vec![
+        number_cell(each),
+        number_cell(steps),
+        grouped(list.len() as u64),
+    ]);
+}
+
+fn run_walk_case((each, below): (u32, u32), requests: u32) {
+    let climb = ladder(each, MAX_STEPS);
+    let list = &climb.list;
+    let mut pair = Pair::new(&climb);
+    pair.both(|climber| climber.walk(list, &walk_of(UP, below, 1)));
+    for _ in 0..ROUNDS {
+        pair.both(|climber| climber.walk_round(list, requests));
+    }
+    pair.both(|climber| climber.walk(list, &walk_of(UP, WALKED, requests)));
+    let levels = [below, below + WALKED].map(number_cell).join(" to ");
+    pair.print_times(vec![number_cell(each), levels, number_cell(requests)]);
+}
+
+const TIMES: [&str; 6] = [
+    "Up, µs: independent",
+    "Library",
+    "Time library / independent",
+    "Down, µs: independent",
+    "Library",
+    "Time library / independent",
+];
+
+pub fn print_tables() {
     let columns = [
         "Moves, and new faces, of a step",
         "Steps of the list",
         "Words of the list",
-        "Up, µs: independent",
-        "Library",
-        "Time library / independent",
-        "Down, µs: independent",
-        "Library",
-        "Time library / independent",
     ];
-    print_heading("Steps up and down", &columns);
+    print_heading("Steps up and down", &[&columns[..], &TIMES].concat());
     CASES.into_iter().for_each(run_case);
+    println!();
+    let columns = [
+        "Moves, and new faces, of a step",
+        "Levels of the walk",
+        "Requests of the walk",
+    ];
+    print_heading("Walks", &[&columns[..], &TIMES].concat());
+    for case in WALK_CASES {
+        REQUESTS
+            .into_iter()
+            .for_each(|requests| run_walk_case(case, requests));
+    }
     println!();
 }
