@@ -5,15 +5,16 @@ use mathlib.Core.Logic.{_≢_, ⊎-elim}
 use mathlib.Core.Bool.{Bool, true, false, _&&_}
 use mathlib.Core.List.{List}
 use Prim.Native.Nat.{ℕ, zero, suc, _+_, _<_, _≤_}
-use native.Mathlib.Numerals.{add-one}
+use native.Mathlib.Numerals.{add-one, unary-clauses}
 use native.Mathlib.Nat.{eq-or-lt-of-le, le-of-suc-le-suc, not-suc-le-zero}
 use native.Mathlib.Omega.{arith}
 use borrow.Author.Tests.{eqb-true, eq-eqb, ne-eqb}
 use lib.Dec.{eqb}
 use lib.ListN.{length, getD, set, length-set}
 use lib.Seq.{getD-set-same, getD-set-other, set-getD, set-set, set-comm}
+use Rattle.fields.specs.Judged.{pick}
 use Rattle.fields.proofs.All.{all-fails, all-more, all-true}
-use Rattle.progressive.specs.Indexed.{shows, writes}
+use Rattle.progressive.specs.Indexed.{from, shows, writes}
 
 pub and-left : (a b : Bool) → a && b ≡ true → a ≡ true
 and-left true b e = refl
@@ -74,6 +75,33 @@ writes-back ix old new l (suc n) d e =
     let shown : getD l (ix n) 0 ≡ old n = eqb-true _ _ (and-right (shows ix old l n) (eqb (getD l (ix n) 0) (old n)) e) in
     let earlier : writes ix old (writes ix new l n) n ≡ l = writes-back ix old new l n (λ a b x y. d a b x (omega arith)) (and-left (shows ix old l n) (eqb (getD l (ix n) 0) (old n)) e) in
     rw (writes-set ix old (writes ix new l n) n (ix n) (new n) (λ i b. d i n b (omega arith)), earlier, set-set, ← shown) (set-getD l (ix n) 0)
+
+-- stores that go on where others ended
+pub writes-on : (at : ℕ) (val next : ℕ → ℕ) (l : List ℕ) (m n : ℕ) → ((q : ℕ) → q < n → next q ≡ val (m + q))
+    → writes (from (at + m)) next (writes (from at) val l m) n ≡ writes (from at) val l (m + n)
+writes-on at val next l m zero h = simp unary-clauses
+writes-on at val next l m (suc n) h =
+    let place : at + m + n ≡ at + (m + n) = omega arith in
+    simp unary-clauses (rw (writes-on at val next l m n (λ q b. h q (omega arith)), h n (omega arith), place))
+
+-- the values with another one at k
+abbrev pub valuesWith : (ℕ → ℕ) → ℕ → ℕ → ℕ → ℕ
+valuesWith val k v i = pick (eqb i k) v (val i)
+
+with-later : (at : ℕ) (val : ℕ → ℕ) (k v : ℕ) (l : List ℕ) (n : ℕ) → n ≤ k → writes (from at) (valuesWith val k v) l n ≡ writes (from at) val l n
+with-later at val k v l zero h = refl
+with-later at val k v l (suc n) h = rw (with-later at val k v l n (omega arith), ne-eqb n k (λ e. omega arith))
+
+-- another value at k is one more store
+pub writes-with : (at : ℕ) (val : ℕ → ℕ) (k v : ℕ) (l : List ℕ) (n : ℕ) → k < n
+    → writes (from at) (valuesWith val k v) l n ≡ set (writes (from at) val l n) (at + k) v
+writes-with at val k v l zero h = absurd (not-suc-le-zero h)
+writes-with at val k v l (suc n) h =
+    ⊎-elim
+    (λ q. rw (q, with-later at val n v l n (omega arith), eq-eqb n n refl, set-set))
+    (λ c.
+    rw (writes-with at val k v l n c, ne-eqb n k (λ e. omega arith)) (set-comm (writes (from at) val l n) (at + k) (at + n) v (val n) (λ e. omega arith)))
+    (eq-or-lt-of-le (le-of-suc-le-suc h))
 
 -- ---- a loop that writes: one more turn, at the code's i + 1; the end
 

@@ -1,17 +1,19 @@
 -- Laws of what a step shows and writes, over plain values: what the functions that compare and store cite. Each unfolds one definition.
-use mathlib.Core.Path.{_≡_}
+use mathlib.Core.Path.{_≡_, refl, sym, _∙_}
 use mathlib.Core.Bool.{Bool, true, false}
 use mathlib.Core.List.{List}
 use Prim.Native.Nat.{ℕ, _+_, _*_, _/_, _%_, _<_}
 use borrow.Author.Tests.{ne-eqb}
 use native.Mathlib.Omega.{arith}
+use lib.ListN.{getD, length, set}
 use Rattle.mesh.specs.Corners.{absent, cornerFields, faceWords}
 use Rattle.mesh.specs.Base.{positionWords}
 use Rattle.progressive.specs.Indexed.{always, from, shows, writes}
-use Rattle.progressive.specs.StepTable.{coordinate, moveCorner, moveCount, moveFace, moveWords, newFaceCount, newFaceWords, splitOf, stepWords}
+use Rattle.progressive.specs.StepTable.{coordinate, moveCorner, moveCount, moveFace, moveWords, newFaceAt, newFaceCount, newFaceWords, splitOf, stepWords}
 use Rattle.progressive.specs.Rules.{cornerIndex}
 use Rattle.progressive.specs.Laying.{clearAfter, laidFaces, newFaceField, newFaceNumber, showsStep, undoneFaces}
-use Rattle.progressive.specs.Inside.{FacesStep}
+use Rattle.progressive.specs.Inside.{FacesStep, withRecord}
+use Rattle.progressive.proofs.Indexed.{Written, length-writes, valuesWith, writes-on, writes-with}
 use Rattle.progressive.proofs.Corners.{corner-below}
 
 pub corner-index : (t : List ℕ) (o i : ℕ) {face corner : ℕ} → face ≡ moveFace t o i → corner ≡ moveCorner t o i → faceWords * face + 1 + cornerFields * corner ≡ cornerIndex t o i
@@ -30,6 +32,56 @@ field-absent t at q a b c d = rw (ne-eqb q 0 a, ne-eqb q 1 b, ne-eqb q (1 + corn
 
 pub field-given : (t : List ℕ) (at : ℕ) {q k v : ℕ} → q ≡ k → v ≡ newFaceField t at k → v ≡ newFaceField t at q
 field-given t at e h = rw e h
+
+-- number q of the record of new face j
+pub number-of-face : (t : List ℕ) (o j q : ℕ) → q < faceWords → newFaceField t (newFaceAt t o j) q ≡ newFaceNumber t o (faceWords * j + q)
+unfolding newFaceNumber
+number-of-face t o j q h =
+    let face : (faceWords * j + q) / faceWords ≡ j = omega arith in
+    let field : (faceWords * j + q) % faceWords ≡ q = omega arith in
+    rw (face, field)
+
+-- ---- a record, as the code writes it: absent throughout, then the given fields from the last to the first
+
+abbrev storedFields : List ℕ → ℕ → List ℕ → ℕ → List ℕ
+storedFields t at l i =
+    let third : List ℕ = set l (i + (1 + 2 * cornerFields)) (getD t (at + 3) 0) in
+    let second : List ℕ = set third (i + (1 + cornerFields)) (getD t (at + 2) 0) in
+    set (set second (i + 1) (getD t (at + 1) 0)) i (getD t at 0)
+
+fields-given : (t : List ℕ) (at i n : ℕ) (faces : List ℕ) → 1 + 2 * cornerFields < n
+    → storedFields t at (writes (from i) (always absent) faces n) i ≡ writes (from i) (newFaceField t at) faces n
+unfolding newFaceField
+fields-given t at i n faces h =
+    let third : ℕ → ℕ = valuesWith (always absent) (1 + 2 * cornerFields) (getD t (at + 3) 0) in
+    let second : ℕ → ℕ = valuesWith third (1 + cornerFields) (getD t (at + 2) 0) in
+    let first : ℕ → ℕ = valuesWith second 1 (getD t (at + 1) 0) in
+    let start : i + 0 ≡ i = omega arith in
+    rw (
+      ← writes-with i (always absent) (1 + 2 * cornerFields) (getD t (at + 3) 0) faces n (omega arith),
+      ← writes-with i third (1 + cornerFields) (getD t (at + 2) 0) faces n (omega arith),
+      ← writes-with i second 1 (getD t (at + 1) 0) faces n (omega arith),
+    )
+    (rw start at (sym (writes-with i first 0 (getD t at 0) faces n (omega arith))))
+
+pub record-written : (t : List ℕ) (at : ℕ) (faces : List ℕ) (i : ℕ) {filled : List ℕ} → filled ≡ writes (from i) (always absent) faces faceWords
+    → storedFields t at filled i ≡ withRecord t at faces i
+unfolding withRecord
+record-written t at faces i e = rw e (fields-given t at i faceWords faces (omega arith))
+
+-- the records of the new faces before face j, then its own
+pub records-written : (t : List ℕ) (o at j : ℕ) {l cur after : List ℕ} {m : ℕ} → Written (from at) (newFaceNumber t o) l cur (faceWords * j) → m ≡ moveCount t o
+    → after ≡ withRecord t (o + stepWords + moveWords * m + newFaceWords * j) cur (at + faceWords * j) → Written (from at) (newFaceNumber t o) l after (faceWords * (j + 1))
+unfolding withRecord
+records-written t o at j {l} {cur} {after} w em e =
+    let start = at + faceWords * j in
+    let fields = newFaceField t (newFaceAt t o j) in
+    let more : faceWords * j + faceWords ≡ faceWords * (j + 1) = omega arith in
+    let now-is : after ≡ writes (from start) fields cur faceWords = rw (← em) e in
+    record {
+      is = now-is ∙ rw (w .is, writes-on at (newFaceNumber t o) fields l (faceWords * j) faceWords (number-of-face t o j), more);
+      long = rw (now-is, length-writes (from start) fields cur faceWords) (w .long);
+    }
 
 module _ (t : List ℕ) (o : ℕ) (faces positions : List ℕ) (f r : ℕ) {a : Bool} {m : ℕ} (em : m ≡ moveCount t o) (corners : a ≡ shows (cornerIndex t o) (always r) faces m) where
   pub corners-not-shown : a ≡ false → false ≡ showsStep t o faces positions f r

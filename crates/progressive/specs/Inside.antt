@@ -17,7 +17,9 @@ use Rattle.progressive.specs.declared.levels.Walked.{Walked}
 use Rattle.progressive.specs.declared.levels.Located as located
 use Rattle.progressive.specs.declared.refine.Verdict as verdict
 use Rattle.progressive.specs.StepTable.{moveCount, newFaceCount, facesBefore, stepCount, stepFormed, stepOffset, wellFormed}
+use Rattle.progressive.specs.Indexed.{from, writes}
 use Rattle.progressive.specs.Rules.{moveNumbers}
+use Rattle.progressive.specs.Laying.{newFaceField}
 use Rattle.progressive.specs.Mesh.{Mesh}
 use Rattle.progressive.specs.Steps.{levelOf}
 
@@ -77,6 +79,10 @@ pub record FacesStep (t : List ℕ) (o faceRoom f r : ℕ) : Type 0 where
   pub moves : all (moveNumbers t o f) (moveCount t o) ≡ true
   pub room : faceWords * (f + newFaceCount t o) ≤ faceRoom
   pub few : r ≤ largestCount
+
+-- the faces table with the record of the new face that is described at `at` from index i on
+unfoldable pub withRecord : List ℕ → ℕ → List ℕ → ℕ → List ℕ
+withRecord t at faces i = writes (from i) (newFaceField t at) faces faceWords
 
 -- the step at offset o leads from the lower counts up to the higher ones
 pub record StepBetween (t : List ℕ) (o : ℕ) (lower higher : Counts) : Type 0 where

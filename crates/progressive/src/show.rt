@@ -26,11 +26,11 @@ ghost use Rattle.progressive.specs.Rules.{cornerIndex};
 ghost use Rattle.progressive.specs.Laying.{clearAfter, newFaceField, newFaceNumber, showsStep};
 
 // In a face's record, where the positions of its three corners stand.
-const FIRST_CORNER: usize = 1;
+pub(crate) const FIRST_CORNER: usize = 1;
 
-const SECOND_CORNER: usize = 1 + CORNER_FIELDS;
+pub(crate) const SECOND_CORNER: usize = 1 + CORNER_FIELDS;
 
-const THIRD_CORNER: usize = 1 + 2 * CORNER_FIELDS;
+pub(crate) const THIRD_CORNER: usize = 1 + 2 * CORNER_FIELDS;
 
 // Each moved corner holds the value.
 pub(crate) fn corners_show(
@@ -92,7 +92,7 @@ fn new_face_field(steps: &[u32], at: usize, q: usize) -> u32
 }
 
 // Number i of the new faces' records.
-pub(crate) fn new_face_number(steps: &[u32], step: usize, i: usize) -> u32
+fn new_face_number(steps: &[u32], step: usize, i: usize) -> u32
     requires { ⌜ (step ≤ length (now steps)) × (i < 2 ^ 32) ⌝ }
     ensures { λ r. ⌜ r ≡ newFaceNumber (now (steps .entry)) step i ⌝ }
 {

@@ -28,9 +28,6 @@ add-number-2 c = omega (arith, formed (now (c .before .before .before .before .b
 number-requires-2 : tie.Need-number-requires-2
 number-requires-2 c κs = search needs
 
-mul-words : tie.Need-mul-words
-mul-words c = search needs
-
 mul-write-records : tie.Need-mul-write-records
 mul-write-records c = search needs
 
@@ -38,7 +35,7 @@ write-records-requires : tie.Need-write-records-requires
 write-records-requires c κs =
     let start = c .before .before .before .before .before .before .before .before .before in
     let step = formed (now (start .args .steps)) (start .args .step) (start .pre .formed) in
-    omega (arith, step .head, step .faces, c .before .number2 .ensures .0, start .pre .room, c .before .before .before .before .write-corners .kept .1 .1 .1 .0)
+    omega (arith, step .body, c .before .number2 .ensures .0, start .pre .room, c .before .before .before .before .write-corners .kept .1 .1 .1 .0)
 
 same-length : tie.Need-same-length
 same-length c = omega (arith, c .before .before .write-records .kept .1 .1 .0, c .before .before .before .before .before .before .before .write-corners .kept .1 .1 .1 .0)
@@ -58,7 +55,6 @@ lay-faces-spec =
     write-corners-requires
     add-number-2
     number-requires-2
-    mul-words
     mul-write-records
     write-records-requires
     same-length

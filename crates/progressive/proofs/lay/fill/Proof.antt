@@ -1,17 +1,17 @@
--- The invariant: the first numbers are zeros, and the rest of the table is as it was.
+-- The invariant: the first numbers are the value, and the rest of the table is as it was.
 use mathlib.Core.Path.{refl}
 use Prim.Native.Nat.{_≤_, _-_}
 use Rattle.progressive.specs.Indexed.{always, from}
 use Rattle.progressive.proofs.Indexed.{Written, written-done, written-more, written-none}
 use borrow.Author.Needs.{needs}
-use Rattle.progressive.proofs.lay.clear.Statement.{statement}
-use Rattle.progressive.proofs.lay.clear.Tie as tie
+use Rattle.progressive.proofs.lay.fill.Statement.{statement}
+use Rattle.progressive.proofs.lay.fill.Tie as tie
 
 abbrev Inv-loop : tie.InvT-loop
-Inv-loop table₀ at count i₀ table i = (i ≤ count) × Written (from at) (always 0) table₀ table i
+Inv-loop table₀ at value count i₀ table i = (i ≤ count) × Written (from at) (always value) table₀ table i
 
 abbrev μ-loop : tie.MeasureT-loop
-μ-loop table₀ at count i₀ table i = count - i
+μ-loop table₀ at value count i₀ table i = count - i
 
 loop-holds : tie.Need-loop-holds Inv-loop μ-loop
 loop-holds c = (search needs, written-none)
@@ -41,8 +41,8 @@ same-length c = search needs
 returns : tie.Need-returns Inv-loop μ-loop
 returns c = written-done (c .before .loop .inv .1) (c .before .loop .inv .0) (c .loop-test .left)
 
-pub clear-spec : {M : Type 1} → statement M
-clear-spec =
+pub fill-spec : {M : Type 1} → statement M
+fill-spec =
     tie.close
     (tie.spec
     Inv-loop
