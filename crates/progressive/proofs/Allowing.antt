@@ -1,25 +1,33 @@
 -- Laws of the tests on a step's numbers, over plain values: what each return of the functions that test them cites. Each unfolds one test.
 use mathlib.Core.Path.{_≡_}
-use mathlib.Core.Bool.{Bool, true, false, not}
+use mathlib.Core.Bool.{Bool, true, false, not, _&&_}
 use mathlib.Core.List.{List}
 use Prim.Native.Nat.{ℕ, _+_, _*_, _<_, _≤_}
+use native.Mathlib.Omega.{arith}
 use borrow.Author.Tests.{lt-ltb, le-ltb, eq-eqb, ne-eqb}
 use lib.Dec.{eqb}
-use lib.ListN.{getD}
+use lib.ListN.{getD, length}
 use Rattle.fields.specs.All.{all}
 use Rattle.progressive.specs.Indexed.{always, shows}
 use Rattle.progressive.specs.StepTable.{moveCorner, moveCount, moveFace, moveWords, newFaceCount, newFaceWords, splitOf, stepWords}
 use Rattle.progressive.specs.Rules.{allowedOn, cornerIndex, moveNumbers, newFaceAllowed, newFaceNumbers, numbersAllowed, otherCorner, splitTriangle}
+use Rattle.progressive.specs.Inside.{MoveNames}
 use Rattle.progressive.proofs.Indexed.{first-passed}
 
-module _ (t : List ℕ) (o i j : ℕ) {fi fj : ℕ} (ei : fi ≡ moveFace t o i) (ej : fj ≡ moveFace t o j) where
-  pub faces-differ : (fi ≡ fj → ⊥) → true ≡ otherCorner t o i j
-  unfolding otherCorner
-  faces-differ h = rw (← ei, ← ej, ne-eqb fi fj h)
+-- what move i names, as the code has its place
+pub move-named : (t : List ℕ) (o i : ℕ) {face corner : ℕ} → o + stepWords + moveWords * (i + 1) ≤ length t
+    → face ≡ getD t (o + stepWords + moveWords * i) 0 → corner ≡ getD t (o + stepWords + moveWords * i + 1) 0 → MoveNames t o i face corner
+move-named t o i h ef ec =
+    let place : o + stepWords + moveWords * i + 1 ≡ o + stepWords + 1 + moveWords * i = omega arith in
+    record { within = h; face-is = ef; corner-is = rw place at ec }
 
-  pub corners-decide : {ci cj : ℕ} → fi ≡ fj → ci ≡ moveCorner t o i → cj ≡ moveCorner t o j → not (eqb ci cj) ≡ otherCorner t o i j
-  unfolding otherCorner
-  corners-decide {ci} {cj} e di dj = rw (← ei, ← ej, ← di, ← dj, eq-eqb fi fj e)
+-- the test of an earlier move j, as the code has its place
+pub other-named : (t : List ℕ) (o i j : ℕ) {face corner : ℕ} {b : Bool} → MoveNames t o i face corner
+    → b ≡ eqb face (getD t (o + stepWords + moveWords * j) 0) && eqb corner (getD t (o + stepWords + moveWords * j + 1) 0) → not b ≡ otherCorner t o i j
+unfolding otherCorner
+other-named t o i j m e =
+    let place : o + stepWords + moveWords * j + 1 ≡ o + stepWords + 1 + moveWords * j = omega arith in
+    rw (← m .face-is, ← m .corner-is, ← place, ← e)
 
 module _ (t : List ℕ) (o f i : ℕ) {face : ℕ} (e : face ≡ moveFace t o i) where
   pub face-refused : f ≤ face → false ≡ moveNumbers t o f i

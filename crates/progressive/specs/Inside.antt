@@ -16,7 +16,7 @@ use Rattle.progressive.specs.declared.levels.Reached.{Reached}
 use Rattle.progressive.specs.declared.levels.Walked.{Walked}
 use Rattle.progressive.specs.declared.levels.Located as located
 use Rattle.progressive.specs.declared.refine.Verdict as verdict
-use Rattle.progressive.specs.StepTable.{moveCount, newFaceCount, facesBefore, stepCount, stepFormed, stepOffset, wellFormed}
+use Rattle.progressive.specs.StepTable.{moveCount, newFaceCount, facesBefore, stepCount, stepFormed, stepOffset, wellFormed, stepWords, moveWords, moveFace, moveCorner}
 use Rattle.progressive.specs.Indexed.{from, writes}
 use Rattle.progressive.specs.Rules.{moveNumbers}
 use Rattle.progressive.specs.Laying.{newFaceField}
@@ -72,6 +72,12 @@ refusalOf n counts = stepped.the-variants.Refused (record { number = n; place = 
 abbrev pub verdictGiven : verdict.Verdict → Mesh → Judged Mesh
 verdictGiven verdict.the-variants.Granted made = done made
 verdictGiven (verdict.the-variants.Refused n) made = refused n 0
+
+-- move i of the step at offset o stands in the table, and names this face and corner
+pub record MoveNames (t : List ℕ) (o i face corner : ℕ) : Type 0 where
+  pub within : o + stepWords + moveWords * (i + 1) ≤ length t
+  pub face-is : face ≡ moveFace t o i
+  pub corner-is : corner ≡ moveCorner t o i
 
 -- what the writes to a faces table of this length need of the step at offset o, between f faces, r positions and what it adds
 pub record FacesStep (t : List ℕ) (o faceRoom f r : ℕ) : Type 0 where

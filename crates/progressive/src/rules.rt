@@ -4,17 +4,17 @@ use crate::form::MOVE_WORDS;
 use crate::form::NEW_FACE_COUNT;
 use crate::form::NEW_FACE_WORDS;
 use crate::form::STEP_WORDS;
-use crate::form::move_corner;
-use crate::form::move_face;
 use crate::words::number;
+use fields::words::word;
 ghost use mathlib.Core.Path.{_≡_};
-ghost use mathlib.Core.Bool.{true};
-ghost use Prim.Native.Nat.{_+_, _≤_};
-ghost use lib.ListN.{length};
+ghost use mathlib.Core.Bool.{true, _&&_};
+ghost use Prim.Native.Nat.{_+_, _*_, _≤_};
+ghost use lib.Dec.{eqb};
+ghost use lib.ListN.{getD, length};
 ghost use Rattle.fields.specs.All.{all};
-ghost use Rattle.fields.specs.Limits.{mostMoves};
-ghost use Rattle.progressive.specs.StepTable.{newFaceAt, newFaceWords, stepFormed};
+ghost use Rattle.progressive.specs.StepTable.{moveWords, newFaceAt, newFaceWords, stepFormed, stepWords};
 ghost use Rattle.progressive.specs.Rules.{moveNumbers, newFaceAllowed, newFaceNumbers, numbersAllowed, otherCorner, otherPosition, splitAndOther, splitTriangle};
+ghost use Rattle.progressive.specs.Inside.{MoveNames};
 
 // A position below r other than s.
 fn other_position(r: usize, s: usize, p: usize) -> bool
@@ -52,28 +52,25 @@ fn split_triangle(r: usize, s: usize, a: usize, b: usize, c: usize) -> bool
     false
 }
 
-// Moves i and j name different corners.
-fn other_corner(steps: &[u32], step: usize, i: usize, j: usize) -> bool
-    requires { ⌜ (step ≤ length (now steps)) × ((i ≤ mostMoves) × (j ≤ mostMoves)) ⌝ }
-    ensures { λ r. ⌜ r ≡ otherCorner (now (steps .entry)) step i j ⌝ }
+// The move at an index of the table names this corner.
+fn names_corner(steps: &[u32], at: usize, face: u32, corner: u32) -> bool
+    requires { ⌜ at + moveWords ≤ length (now steps) ⌝ }
+    ensures { λ r. ⌜ r ≡ (eqb face (getD (now (steps .entry)) at 0) && eqb corner (getD (now (steps .entry)) (at + 1) 0)) ⌝ }
 {
-    if move_face(steps, step, i) != move_face(steps, step, j) {
-        return true;
-    }
-    move_corner(steps, step, i) != move_corner(steps, step, j)
-}
-
-// Move i names a face below the count, and a corner that no earlier move names.
-fn move_allowed(steps: &[u32], step: usize, faces: usize, i: usize) -> bool
-    requires { ⌜ (step ≤ length (now steps)) × (i ≤ mostMoves) ⌝ }
-    ensures { λ r. ⌜ r ≡ moveNumbers (now (steps .entry)) step faces i ⌝ }
-{
-    if faces <= move_face(steps, step, i) {
+    if face != steps[at] {
         return false;
     }
+    corner == steps[at + 1]
+}
+
+// No move before move i names its corner, this one.
+fn corner_free(steps: &[u32], step: usize, i: usize, face: u32, corner: u32) -> bool
+    requires { ⌜ MoveNames (now steps) step i face corner ⌝ }
+    ensures { λ r. ⌜ r ≡ all (otherCorner (now (steps .entry)) step i) i ⌝ }
+{
     let mut j: usize = 0;
     while j < i {
-        if !other_corner(steps, step, i, j) {
+        if names_corner(steps, step + STEP_WORDS + MOVE_WORDS * j, face, corner) {
             return false;
         }
         j += 1;
@@ -81,8 +78,21 @@ fn move_allowed(steps: &[u32], step: usize, faces: usize, i: usize) -> bool
     true
 }
 
+// Move i names a face below the count, and a corner that no earlier move names.
+fn move_allowed(steps: &[u32], step: usize, faces: usize, i: usize) -> bool
+    requires { ⌜ step + stepWords + moveWords * (i + 1) ≤ length (now steps) ⌝ }
+    ensures { λ r. ⌜ r ≡ moveNumbers (now (steps .entry)) step faces i ⌝ }
+{
+    let at = step + STEP_WORDS + MOVE_WORDS * i;
+    let face = word(steps, at);
+    if faces <= face as usize {
+        return false;
+    }
+    corner_free(steps, step, i, face, word(steps, at + 1))
+}
+
 fn moves_allowed(steps: &[u32], step: usize, faces: usize, count: usize) -> bool
-    requires { ⌜ (step ≤ length (now steps)) × (count ≤ mostMoves) ⌝ }
+    requires { ⌜ step + stepWords + moveWords * count ≤ length (now steps) ⌝ }
     ensures { λ r. ⌜ r ≡ all (moveNumbers (now (steps .entry)) step faces) count ⌝ }
 {
     let mut i: usize = 0;

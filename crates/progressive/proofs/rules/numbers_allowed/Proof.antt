@@ -22,7 +22,7 @@ number-requires-2 : tie.Need-number-requires-2
 number-requires-2 c κs = search needs
 
 moves-allowed-requires : tie.Need-moves-allowed-requires
-moves-allowed-requires c κs = omega (arith, formed (now (c .before .before .before .before .args .steps)) (c .before .before .before .before .args .step) (c .before .before .before .before .pre) .head, formed (now (c .before .before .before .before .args .steps)) (c .before .before .before .before .args .step) (c .before .before .before .before .pre) .moves, c .number2 .ensures .0)
+moves-allowed-requires c κs = omega (arith, formed (now (c .before .before .before .before .args .steps)) (c .before .before .before .before .args .step) (c .before .before .before .before .pre) .body, c .number2 .ensures .0)
 
 returns-2 : tie.Need-returns-2
 returns-2 c = let a = c .before .before .before .before .before .before .args in
