@@ -2,9 +2,9 @@
 -- stood there.
 use mathlib.Core.Path.{_≡_, refl, sym, ap, _∙_}
 use mathlib.Core.Logic.{_≢_, ⊎-elim}
-use mathlib.Core.Bool.{Bool, true, false, _&&_}
+use mathlib.Core.Bool.{Bool, true, false, _&&_, and-false, and-true}
 use mathlib.Core.List.{List}
-use Prim.Native.Nat.{ℕ, zero, suc, _+_, _<_, _≤_}
+use Prim.Native.Nat.{ℕ, zero, suc, _+_, _-_, _<_, _≤_}
 use native.Mathlib.Numerals.{add-one, unary-clauses}
 use native.Mathlib.Nat.{eq-or-lt-of-le, le-of-suc-le-suc, not-suc-le-zero}
 use native.Mathlib.Omega.{arith}
@@ -131,8 +131,54 @@ module _ (ix val : ℕ → ℕ) (l : List ℕ) (i : ℕ) {k x v : ℕ} (at : k �
   pub show-fails : (n : ℕ) → i < n → (x ≡ v → ⊥) → false ≡ shows ix val l n
   show-fails n b differ = sym (all-fails (λ j. eqb (getD l (ix j) 0) (val j)) n i b (ne-eqb (getD l (ix i) 0) (val i) (rw (← at, ← want, ← read) differ)))
 
+-- the end of such a loop, whatever its answer b is; and where all were shown
+pub look-done : (ix val : ℕ → ℕ) (l : List ℕ) (n i : ℕ) {b : Bool} → i ≤ n → n ≤ i → b ≡ shows ix val l i → b ≡ shows ix val l n
+look-done ix val l n i a h e = let q : i ≡ n = omega arith in rw q at e
+
 pub show-done : (ix val : ℕ → ℕ) (l : List ℕ) (n i : ℕ) → i ≤ n → n ≤ i → shows ix val l i ≡ true → true ≡ shows ix val l n
-show-done ix val l n i a b e = let q : i ≡ n = omega arith in sym (rw q at e)
+show-done ix val l n i a b e = look-done ix val l n i a b (sym e)
+
+-- ---- a loop that looks at every index: b is its answer so far
+module _ (ix val : ℕ → ℕ) (l : List ℕ) (i : ℕ) {b : Bool} (so-far : b ≡ shows ix val l i) where
+  pub still-shown : getD l (ix i) 0 ≡ val i → b ≡ shows ix val l (i + 1)
+  still-shown same = rw (add-one i, eq-eqb (getD l (ix i) 0) (val i) same, and-true) so-far
+
+  pub not-shown : (getD l (ix i) 0 ≡ val i → ⊥) → false ≡ shows ix val l (i + 1)
+  not-shown differ = rw (add-one i, ne-eqb (getD l (ix i) 0) (val i) differ, and-false)
+
+-- ---- a comparison in parts, one after the other
+and-assoc : (a b c : Bool) → (a && b) && c ≡ a && (b && c)
+and-assoc true b c = refl
+and-assoc false b c = refl
+
+pub shows-on : (at : ℕ) (val next : ℕ → ℕ) (l : List ℕ) (m n : ℕ) → ((q : ℕ) → q < n → next q ≡ val (m + q))
+    → shows (from at) val l (m + n) ≡ (shows (from at) val l m && shows (from (at + m)) next l n)
+shows-on at val next l m zero h = simp (unary-clauses, and-true)
+shows-on at val next l m (suc n) h =
+    let place : at + m + n ≡ at + (m + n) = omega arith in
+    simp unary-clauses
+    (rw (shows-on at val next l m n (λ q b. h q (omega arith)), ← h n (omega arith), ← place)
+    (and-assoc (shows (from at) val l m) (shows (from (at + m)) next l n) (eqb (getD l (at + m + n) 0) (next n))))
+
+-- a number, then three parts of w
+pub shows-parts : (i : ℕ) (val first second third : ℕ → ℕ) (l : List ℕ) (w : ℕ) → ((q : ℕ) → q < w → first q ≡ val (1 + q))
+    → ((q : ℕ) → q < w → second q ≡ val (1 + w + q)) → ((q : ℕ) → q < w → third q ≡ val (1 + w + w + q))
+    → shows (from i) val l (1 + w + w + w)
+    ≡ (eqb (getD l i 0) (val 0) && (shows (from (i + 1)) first l w && (shows (from (i + (1 + w))) second l w && shows (from (i + (1 + w + w))) third l w)))
+shows-parts i val first second third l w a b c =
+    let start : i + 0 ≡ i = omega arith in
+    let x : Bool = eqb (getD l i 0) (val 0) in
+    let y : Bool = shows (from (i + 1)) first l w in
+    let z : Bool = shows (from (i + (1 + w))) second l w in
+    let last : Bool = shows (from (i + (1 + w + w))) third l w in
+    shows-on i val third l (1 + w + w) w c
+    ∙ rw (shows-on i val second l (1 + w) w b, shows-on i val first l 1 w a, start) (and-assoc (x && y) z last ∙ and-assoc x y (z && last))
+
+-- what is not shown of some numbers is not shown of more
+pub shows-longer : (at : ℕ) (val : ℕ → ℕ) (l : List ℕ) (m n : ℕ) → m ≤ n → shows (from at) val l m ≡ false → false ≡ shows (from at) val l n
+shows-longer at val l m n h e =
+    let rest : m + (n - m) ≡ n = omega arith in
+    rw (← rest, shows-on at val (λ q. val (m + q)) l m (n - m) (λ q b. refl), e)
 
 -- ---- code that stops at the first test that fails: b is what the code's test answered, x the test's definition
 pub first-failed : {b x : Bool} (y : Bool) → b ≡ x → b ≡ false → false ≡ x && y
@@ -140,3 +186,10 @@ first-failed y e f = rw (← e, f)
 
 pub first-passed : {b x v y : Bool} → b ≡ x → b ≡ true → v ≡ y → v ≡ x && y
 first-passed e f g = rw (← e, f) g
+
+-- the same where the first test compares two numbers
+pub first-differs : {x v : ℕ} (y : Bool) → (x ≡ v → ⊥) → false ≡ eqb x v && y
+first-differs {x} {v} y h = rw (ne-eqb x v h)
+
+pub first-same : {x v : ℕ} {b y : Bool} → x ≡ v → b ≡ y → b ≡ eqb x v && y
+first-same {x} {v} h e = rw (eq-eqb x v h) e

@@ -1,40 +1,34 @@
 -- Laws of what a step shows and writes, over plain values: what the functions that compare and store cite. Each unfolds one definition.
 use mathlib.Core.Path.{_≡_, refl, sym, _∙_}
-use mathlib.Core.Bool.{Bool, true, false}
+use mathlib.Core.Bool.{Bool, true, false, _&&_, and-false}
 use mathlib.Core.List.{List}
-use Prim.Native.Nat.{ℕ, _+_, _*_, _/_, _%_, _<_}
+use Prim.Native.Nat.{ℕ, zero, suc, _+_, _-_, _*_, _/_, _%_, _<_, _≤_}
 use borrow.Author.Tests.{ne-eqb}
 use native.Mathlib.Omega.{arith}
-use lib.ListN.{getD, length, set}
+use lib.Dec.{eqb}
+use lib.ListN.{getD, set}
+use native.Mathlib.Numerals.{unary-clauses}
 use Rattle.mesh.specs.Corners.{absent, cornerFields, faceWords}
 use Rattle.mesh.specs.Base.{positionWords}
 use Rattle.progressive.specs.Indexed.{always, from, shows, writes}
 use Rattle.progressive.specs.StepTable.{coordinate, moveCorner, moveCount, moveFace, moveWords, newFaceAt, newFaceCount, newFaceWords, splitOf, stepWords}
 use Rattle.progressive.specs.Rules.{cornerIndex}
 use Rattle.progressive.specs.Laying.{clearAfter, laidFaces, newFaceField, newFaceNumber, showsStep, undoneFaces}
-use Rattle.progressive.specs.Inside.{FacesStep, withRecord}
-use Rattle.progressive.proofs.Indexed.{Written, length-writes, valuesWith, writes-on, writes-with}
+use Rattle.progressive.specs.Inside.{FacesStep, cornerField, cornerShown, recordShown, withRecord}
+use Rattle.progressive.proofs.Indexed.{Written, length-writes, shows-longer, shows-on, shows-parts, valuesWith, writes-on, writes-with}
 use Rattle.progressive.proofs.Corners.{corner-below}
 
 pub corner-index : (t : List ℕ) (o i : ℕ) {face corner : ℕ} → face ≡ moveFace t o i → corner ≡ moveCorner t o i → faceWords * face + 1 + cornerFields * corner ≡ cornerIndex t o i
 unfolding cornerIndex
 corner-index t o i f c = rw (f, c)
 
--- number i of the new records, as the code has its place
-pub new-face-field : (t : List ℕ) (o i : ℕ) {m v : ℕ} → m ≡ moveCount t o → v ≡ newFaceField t (o + stepWords + moveWords * m + newFaceWords * (i / faceWords)) (i % faceWords) → v ≡ newFaceNumber t o i
-unfolding newFaceNumber
-new-face-field t o i em e = rw (← em) e
-
 -- a field of a new record that is none of the four given ones
-pub field-absent : (t : List ℕ) (at q : ℕ) → (q ≡ 0 → ⊥) → (q ≡ 1 → ⊥) → (q ≡ 1 + cornerFields → ⊥) → (q ≡ 1 + 2 * cornerFields → ⊥) → absent ≡ newFaceField t at q
+field-absent : (t : List ℕ) (at q : ℕ) → (q ≡ 0 → ⊥) → (q ≡ 1 → ⊥) → (q ≡ 1 + cornerFields → ⊥) → (q ≡ 1 + 2 * cornerFields → ⊥) → absent ≡ newFaceField t at q
 unfolding newFaceField
 field-absent t at q a b c d = rw (ne-eqb q 0 a, ne-eqb q 1 b, ne-eqb q (1 + cornerFields) c, ne-eqb q (1 + 2 * cornerFields) d)
 
-pub field-given : (t : List ℕ) (at : ℕ) {q k v : ℕ} → q ≡ k → v ≡ newFaceField t at k → v ≡ newFaceField t at q
-field-given t at e h = rw e h
-
 -- number q of the record of new face j
-pub number-of-face : (t : List ℕ) (o j q : ℕ) → q < faceWords → newFaceField t (newFaceAt t o j) q ≡ newFaceNumber t o (faceWords * j + q)
+number-of-face : (t : List ℕ) (o j q : ℕ) → q < faceWords → newFaceField t (newFaceAt t o j) q ≡ newFaceNumber t o (faceWords * j + q)
 unfolding newFaceNumber
 number-of-face t o j q h =
     let face : (faceWords * j + q) / faceWords ≡ j = omega arith in
@@ -82,6 +76,47 @@ records-written t o at j {l} {cur} {after} w em e =
       is = now-is ∙ rw (w .is, writes-on at (newFaceNumber t o) fields l (faceWords * j) faceWords (number-of-face t o j), more);
       long = rw (now-is, length-writes (from start) fields cur faceWords) (w .long);
     }
+
+-- ---- a record, as the code compares it: the shading, then a corner after the other, each its position and absent fields
+
+pub corner-parts : (faces : List ℕ) (i p : ℕ) → cornerShown faces i p ≡ (eqb (getD faces i 0) p && shows (from (i + 1)) (always absent) faces (cornerFields - 1))
+unfolding cornerShown
+corner-parts faces i p =
+    let start : i + 0 ≡ i = omega arith in
+    shows-on i (cornerField p) (always absent) faces 1 (cornerFields - 1) (λ q h. rw (ne-eqb (1 + q) 0 (λ e. omega arith))) ∙ rw start
+
+-- field q of corner k, from the record's start on
+corner-value : (t : List ℕ) (at k base q : ℕ) → k ≤ 2 → base ≡ 1 + cornerFields * k → q < cornerFields
+    → cornerField (newFaceField t at base) q ≡ newFaceField t at (base + q)
+corner-value t at k base zero h is b = simp unary-clauses
+corner-value t at k base (suc q) h is b =
+    rw (ne-eqb (suc q) 0 (λ e. omega arith)) (field-absent t at (base + suc q) (λ e. omega arith) (λ e. omega arith) (λ e. omega arith) (λ e. omega arith))
+
+pub record-parts : (t : List ℕ) (at : ℕ) (faces : List ℕ) (i : ℕ)
+    → recordShown t at faces i
+    ≡ (eqb (getD faces i 0) (getD t at 0) && (cornerShown faces (i + 1) (getD t (at + 1) 0)
+    && (cornerShown faces (i + (1 + cornerFields)) (getD t (at + 2) 0) && cornerShown faces (i + (1 + 2 * cornerFields)) (getD t (at + 3) 0))))
+unfolding recordShown cornerShown newFaceField
+record-parts t at faces i =
+    shows-parts i (newFaceField t at) (cornerField (getD t (at + 1) 0)) (cornerField (getD t (at + 2) 0)) (cornerField (getD t (at + 3) 0)) faces cornerFields
+    (λ q h. corner-value t at 0 1 q (omega arith) refl h)
+    (λ q h. corner-value t at 1 (1 + cornerFields) q (omega arith) refl h)
+    (λ q h. corner-value t at 2 (1 + 2 * cornerFields) q (omega arith) refl h)
+
+module _ (t : List ℕ) (o at : ℕ) (faces : List ℕ) (j : ℕ) {m : ℕ} {b : Bool} (em : m ≡ moveCount t o)
+    (e : b ≡ recordShown t (o + stepWords + moveWords * m + newFaceWords * j) faces (at + faceWords * j)) where
+  up-to-face : shows (from at) (newFaceNumber t o) faces (faceWords * (j + 1)) ≡ (shows (from at) (newFaceNumber t o) faces (faceWords * j) && b)
+  unfolding recordShown
+  up-to-face =
+      let more : faceWords * j + faceWords ≡ faceWords * (j + 1) = omega arith in
+      let is : b ≡ shows (from (at + faceWords * j)) (newFaceField t (newFaceAt t o j)) faces faceWords = rw (← em) e in
+      rw (← more, is) (shows-on at (newFaceNumber t o) (newFaceField t (newFaceAt t o j)) faces (faceWords * j) faceWords (number-of-face t o j))
+
+  pub face-shown : shows (from at) (newFaceNumber t o) faces (faceWords * j) ≡ true → b ≡ true → shows (from at) (newFaceNumber t o) faces (faceWords * (j + 1)) ≡ true
+  face-shown h d = rw (up-to-face, h) d
+
+  pub face-not-shown : (n : ℕ) → j < n → b ≡ false → false ≡ shows (from at) (newFaceNumber t o) faces (faceWords * n)
+  face-not-shown n h d = shows-longer at (newFaceNumber t o) faces (faceWords * (j + 1)) (faceWords * n) (omega arith) (rw (up-to-face, d, and-false))
 
 module _ (t : List ℕ) (o : ℕ) (faces positions : List ℕ) (f r : ℕ) {a : Bool} {m : ℕ} (em : m ≡ moveCount t o) (corners : a ≡ shows (cornerIndex t o) (always r) faces m) where
   pub corners-not-shown : a ≡ false → false ≡ showsStep t o faces positions f r

@@ -6,8 +6,9 @@ use Prim.Native.Nat.{ℕ, _+_, _-_, _*_, _/_, _<_, _≤_}
 use lib.ListN.{length, getD}
 use Rattle.fields.specs.All.{all}
 use Rattle.fields.specs.Limits.{largestCount, mostSteps}
-use Rattle.fields.specs.Judged.{Judged, done, refused, onDone}
-use Rattle.mesh.specs.Corners.{faceWords}
+use Rattle.fields.specs.Judged.{Judged, done, refused, onDone, pick}
+use Rattle.mesh.specs.Corners.{faceWords, absent, cornerFields}
+use lib.Dec.{eqb}
 use Rattle.progressive.specs.declared.counts.Counts.{Counts}
 use Rattle.progressive.specs.declared.counts.Stepped as stepped
 use Rattle.progressive.specs.declared.levels.Marks.{Marks}
@@ -17,9 +18,9 @@ use Rattle.progressive.specs.declared.levels.Walked.{Walked}
 use Rattle.progressive.specs.declared.levels.Located as located
 use Rattle.progressive.specs.declared.refine.Verdict as verdict
 use Rattle.progressive.specs.StepTable.{moveCount, newFaceCount, facesBefore, stepCount, stepFormed, stepOffset, wellFormed, stepWords, moveWords, moveFace, moveCorner}
-use Rattle.progressive.specs.Indexed.{from, writes}
+use Rattle.progressive.specs.Indexed.{from, writes, shows}
 use Rattle.progressive.specs.Rules.{moveNumbers}
-use Rattle.progressive.specs.Laying.{newFaceField}
+use Rattle.progressive.specs.Laying.{newFaceField, newFaceNumber}
 use Rattle.progressive.specs.Mesh.{Mesh}
 use Rattle.progressive.specs.Steps.{levelOf}
 
@@ -89,6 +90,22 @@ pub record FacesStep (t : List ℕ) (o faceRoom f r : ℕ) : Type 0 where
 -- the faces table with the record of the new face that is described at `at` from index i on
 unfoldable pub withRecord : List ℕ → ℕ → List ℕ → ℕ → List ℕ
 withRecord t at faces i = writes (from i) (newFaceField t at) faces faceWords
+
+-- the faces table with the records of n new faces of the step at offset o from index i on
+abbrev pub withRecords : List ℕ → ℕ → List ℕ → ℕ → ℕ → List ℕ
+withRecords t o faces i n = writes (from i) (newFaceNumber t o) faces (faceWords * n)
+
+-- the faces table shows the record of the new face that is described at `at` from index i on
+unfoldable pub recordShown : List ℕ → ℕ → List ℕ → ℕ → Bool
+recordShown t at faces i = shows (from i) (newFaceField t at) faces faceWords
+
+-- number q of a corner that has this position and nothing else
+abbrev pub cornerField : ℕ → ℕ → ℕ
+cornerField p q = pick (eqb q 0) p absent
+
+-- the faces table shows such a corner from index i on
+unfoldable pub cornerShown : List ℕ → ℕ → ℕ → Bool
+cornerShown faces i p = shows (from i) (cornerField p) faces cornerFields
 
 -- the step at offset o leads from the lower counts up to the higher ones
 pub record StepBetween (t : List ℕ) (o : ℕ) (lower higher : Counts) : Type 0 where

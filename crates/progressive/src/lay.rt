@@ -24,8 +24,8 @@ ghost use Rattle.mesh.specs.Base.{positionWords};
 ghost use Rattle.progressive.specs.Indexed.{always, from, writes};
 ghost use Rattle.progressive.specs.StepTable.{coordinate, newFaceAt, newFaceWords};
 ghost use Rattle.progressive.specs.Rules.{cornerIndex};
-ghost use Rattle.progressive.specs.Laying.{laidFaces, newFaceNumber, undoneFaces};
-ghost use Rattle.progressive.specs.Inside.{FacesStep, withRecord};
+ghost use Rattle.progressive.specs.Laying.{laidFaces, undoneFaces};
+ghost use Rattle.progressive.specs.Inside.{FacesStep, withRecord, withRecords};
 
 fn write_corners(steps: &[u32], step: usize, value: u32, faces: &mut [u32], count: usize)
     requires { ⌜ (step ≤ length (now steps)) × ((count ≤ mostMoves) × ((i : ℕ) → i < count → cornerIndex (now steps) step i < length (now faces))) ⌝ }
@@ -68,7 +68,7 @@ fn write_record(steps: &[u32], at: usize, faces: &mut [u32], start: usize)
 // The records of so many new faces, from an index on.
 fn write_records(steps: &[u32], step: usize, faces: &mut [u32], at: usize, count: usize)
     requires { ⌜ (newFaceAt (now steps) step count ≤ length (now steps)) × (at + faceWords * count ≤ length (now faces)) ⌝ }
-    ensures { λ _. ⌜ now (faces .exit) ≡ writes (from at) (newFaceNumber (now (steps .entry)) step) (now (faces .entry)) (faceWords * count) ⌝ }
+    ensures { λ _. ⌜ now (faces .exit) ≡ withRecords (now (steps .entry)) step (now (faces .entry)) at count ⌝ }
 {
     let first = step + STEP_WORDS + MOVE_WORDS * number(steps, step + MOVE_COUNT);
     let mut j: usize = 0;

@@ -15,15 +15,16 @@ use mesh::faces::FACE_WORDS;
 use mesh::tables::POSITION_WORDS;
 ghost use mathlib.Core.Path.{_≡_};
 ghost use mathlib.Core.Bool.{true};
-ghost use Prim.Native.Nat.{_+_, _*_, _^_, _≤_, _<_};
+ghost use Prim.Native.Nat.{_+_, _*_, _≤_};
 ghost use lib.ListN.{length};
 ghost use Rattle.fields.specs.Limits.{mostMoves};
-ghost use Rattle.mesh.specs.Corners.{faceWords};
+ghost use Rattle.mesh.specs.Corners.{cornerFields, faceWords};
 ghost use Rattle.mesh.specs.Base.{positionWords};
 ghost use Rattle.progressive.specs.Indexed.{always, from, shows};
-ghost use Rattle.progressive.specs.StepTable.{coordinate, newFaceCount, stepFormed};
+ghost use Rattle.progressive.specs.StepTable.{coordinate, newFaceAt, newFaceCount, newFaceWords, stepFormed};
 ghost use Rattle.progressive.specs.Rules.{cornerIndex};
-ghost use Rattle.progressive.specs.Laying.{clearAfter, newFaceField, newFaceNumber, showsStep};
+ghost use Rattle.progressive.specs.Laying.{clearAfter, newFaceNumber, showsStep};
+ghost use Rattle.progressive.specs.Inside.{cornerShown, recordShown};
 
 // In a face's record, where the positions of its three corners stand.
 pub(crate) const FIRST_CORNER: usize = 1;
@@ -56,67 +57,67 @@ pub(crate) fn corners_show(
     true
 }
 
-// Zeros from an index on.
-fn zeros(table: &[u32], at: usize, count: usize) -> bool
+// The value at every index from one on. All are looked at, so that many are compared at once.
+fn filled(table: &[u32], at: usize, value: u32, count: usize) -> bool
     requires { ⌜ at + count ≤ length (now table) ⌝ }
-    ensures { λ r. ⌜ r ≡ shows (from at) (always 0) (now (table .entry)) count ⌝ }
+    ensures { λ r. ⌜ r ≡ shows (from at) (always value) (now (table .entry)) count ⌝ }
 {
+    let mut same = true;
     let mut i: usize = 0;
     while i < count {
-        if number(table, at + i) != 0 {
-            return false;
+        if table[at + i] != value {
+            same = false;
         }
         i += 1;
     }
-    true
+    same
 }
 
-// Number q of the record of the new face that is described at an index of the table.
-fn new_face_field(steps: &[u32], at: usize, q: usize) -> u32
-    requires { ⌜ at < 2 ^ 63 ⌝ }
-    ensures { λ r. ⌜ r ≡ newFaceField (now (steps .entry)) at q ⌝ }
+// A corner's position, its other fields absent.
+fn corner_shows(faces: &[u32], at: usize, position: u32) -> bool
+    requires { ⌜ at + cornerFields ≤ length (now faces) ⌝ }
+    ensures { λ r. ⌜ r ≡ cornerShown (now (faces .entry)) at position ⌝ }
 {
-    if q == 0 {
-        return word(steps, at);
+    if faces[at] != position {
+        return false;
     }
-    if q == FIRST_CORNER {
-        return word(steps, at + 1);
-    }
-    if q == SECOND_CORNER {
-        return word(steps, at + 2);
-    }
-    if q == THIRD_CORNER {
-        return word(steps, at + 3);
-    }
-    ABSENT
+    filled(faces, at + 1, ABSENT, CORNER_FIELDS - 1)
 }
 
-// Number i of the new faces' records.
-fn new_face_number(steps: &[u32], step: usize, i: usize) -> u32
-    requires { ⌜ (step ≤ length (now steps)) × (i < 2 ^ 32) ⌝ }
-    ensures { λ r. ⌜ r ≡ newFaceNumber (now (steps .entry)) step i ⌝ }
+// The record of the new face that is described at an index of the table.
+fn record_shows(steps: &[u32], at: usize, faces: &[u32], start: usize) -> bool
+    requires { ⌜ (at + newFaceWords ≤ length (now steps)) × (start + faceWords ≤ length (now faces)) ⌝ }
+    ensures { λ r. ⌜ r ≡ recordShown (now (steps .entry)) at (now (faces .entry)) start ⌝ }
 {
-    new_face_field(
-        steps,
-        step
-            + STEP_WORDS
-            + MOVE_WORDS * number(steps, step + MOVE_COUNT)
-            + NEW_FACE_WORDS * (i / FACE_WORDS),
-        i % FACE_WORDS,
-    )
+    if faces[start] != steps[at] {
+        return false;
+    }
+    if !corner_shows(faces, start + FIRST_CORNER, steps[at + 1]) {
+        return false;
+    }
+    if !corner_shows(faces, start + SECOND_CORNER, steps[at + 2]) {
+        return false;
+    }
+    corner_shows(faces, start + THIRD_CORNER, steps[at + 3])
 }
 
-// The new faces' records from an index on.
+// The records of so many new faces, from an index on.
 fn records_show(steps: &[u32], step: usize, faces: &[u32], at: usize, count: usize) -> bool
-    requires { ⌜ (step ≤ length (now steps)) × ((at + count ≤ length (now faces)) × (count < 2 ^ 32)) ⌝ }
-    ensures { λ r. ⌜ r ≡ shows (from at) (newFaceNumber (now (steps .entry)) step) (now (faces .entry)) count ⌝ }
+    requires { ⌜ (newFaceAt (now steps) step count ≤ length (now steps)) × (at + faceWords * count ≤ length (now faces)) ⌝ }
+    ensures { λ r. ⌜ r ≡ shows (from at) (newFaceNumber (now (steps .entry)) step) (now (faces .entry)) (faceWords * count) ⌝ }
 {
-    let mut i: usize = 0;
-    while i < count {
-        if word(faces, at + i) != new_face_number(steps, step, i) {
+    let first = step + STEP_WORDS + MOVE_WORDS * number(steps, step + MOVE_COUNT);
+    let mut j: usize = 0;
+    while j < count {
+        if !record_shows(
+            steps,
+            first + NEW_FACE_WORDS * j,
+            faces,
+            at + FACE_WORDS * j,
+        ) {
             return false;
         }
-        i += 1;
+        j += 1;
     }
     true
 }
@@ -141,10 +142,10 @@ pub(crate) fn room_clear(faces: &[u32], positions: &[u32], added: usize, f: usiz
     requires { ⌜ (faceWords * (f + added) ≤ length (now faces)) × (positionWords * (r + 1) ≤ length (now positions)) ⌝ }
     ensures { λ v. ⌜ v ≡ clearAfter (now (faces .entry)) (now (positions .entry)) added f r ⌝ }
 {
-    if !zeros(faces, FACE_WORDS * f, FACE_WORDS * added) {
+    if !filled(faces, FACE_WORDS * f, 0, FACE_WORDS * added) {
         return false;
     }
-    zeros(positions, POSITION_WORDS * r, POSITION_WORDS)
+    filled(positions, POSITION_WORDS * r, 0, POSITION_WORDS)
 }
 
 // The tables show all that the step wrote, at f faces and r positions.
@@ -167,7 +168,7 @@ pub(crate) fn shows_laid(
         step,
         faces,
         FACE_WORDS * f,
-        FACE_WORDS * number(steps, step + NEW_FACE_COUNT),
+        number(steps, step + NEW_FACE_COUNT),
     ) {
         return false;
     }

@@ -30,11 +30,8 @@ add-number-2 c = omega (arith, formed (now (c .before .before .before .before .b
 number-requires-2 : tie.Need-number-requires-2
 number-requires-2 c κs = search needs
 
-mul-records-show-2 : tie.Need-mul-records-show-2
-mul-records-show-2 c = search needs
-
 records-show-requires : tie.Need-records-show-requires
-records-show-requires c κs = omega (arith, formed (now (c .before .before .before .before .before .before .before .args .steps)) (c .before .before .before .before .before .before .before .args .step) (c .before .before .before .before .before .before .before .pre .0) .head, formed (now (c .before .before .before .before .before .before .before .args .steps)) (c .before .before .before .before .before .before .before .args .step) (c .before .before .before .before .before .before .before .pre .0) .faces, c .number2 .ensures .0, c .before .before .before .before .before .before .before .pre .1 .0)
+records-show-requires c κs = omega (arith, formed (now (c .before .before .before .before .before .before .before .args .steps)) (c .before .before .before .before .before .before .before .args .step) (c .before .before .before .before .before .before .before .pre .0) .body, c .number2 .ensures .0, c .before .before .before .before .before .before .before .pre .1 .0)
 
 returns-2 : tie.Need-returns-2
 returns-2 c = let a = c .before .before .before .before .before .before .before .before .before .args in
@@ -63,7 +60,6 @@ shows-laid-spec =
     mul-records-show
     add-number-2
     number-requires-2
-    mul-records-show-2
     records-show-requires
     returns-2
     mul-coordinates-show
