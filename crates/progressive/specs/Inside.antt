@@ -27,7 +27,7 @@ use Rattle.progressive.specs.Steps.{levelOf}
 -- ---- marks: every so many steps, and how many marks the longest list has
 
 abbrev pub markSteps : ℕ
-markSteps = 8
+markSteps = 16
 
 abbrev pub marks : ℕ
 marks = mostSteps / markSteps

@@ -17,7 +17,7 @@ ghost use Rattle.progressive.specs.StepTable.{stepCount, wellFormed};
 ghost use Rattle.progressive.specs.Inside.{Arrived, AtStep, Marked, MarkedBy, locatedGiven, markSteps, marks, placeOf};
 
 // The steps from one mark to the next, and the marks of the longest list.
-const MARK_STEPS: usize = 8;
+const MARK_STEPS: usize = 16;
 
 const MARKS: usize = MOST_STEPS as usize / MARK_STEPS;
 
