@@ -4,12 +4,12 @@ use mathlib.Core.Bool.{Bool, true, false, not, _&&_}
 use mathlib.Core.List.{List}
 use Prim.Native.Nat.{ℕ, _+_, _*_, _<_, _≤_}
 use native.Mathlib.Omega.{arith}
-use borrow.Author.Tests.{lt-ltb, le-ltb, eq-eqb, ne-eqb}
+use borrow.Author.Tests.{lt-ltb, le-ltb}
 use lib.Dec.{eqb}
 use lib.ListN.{getD, length}
 use Rattle.fields.specs.All.{all}
 use Rattle.progressive.specs.Indexed.{always, shows}
-use Rattle.progressive.specs.StepTable.{moveCorner, moveCount, moveFace, moveWords, newFaceCount, newFaceWords, splitOf, stepWords}
+use Rattle.progressive.specs.StepTable.{moveCount, moveFace, moveWords, newFaceCount, newFaceWords, splitOf, stepWords}
 use Rattle.progressive.specs.Rules.{allowedOn, cornerIndex, moveNumbers, newFaceAllowed, newFaceNumbers, numbersAllowed, otherCorner, splitTriangle}
 use Rattle.progressive.specs.Inside.{MoveNames}
 use Rattle.progressive.proofs.Indexed.{first-passed}

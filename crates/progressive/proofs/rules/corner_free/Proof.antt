@@ -2,7 +2,6 @@
 use mathlib.Core.Path.{_≡_, sym, ap, _∙_}
 use mathlib.Core.Bool.{true, not}
 use Prim.Native.Nat.{_≤_, _-_}
-use native.Mathlib.Omega.{arith}
 use denote.Ref.{now}
 use Rattle.fields.specs.All.{all}
 use Rattle.fields.proofs.All.{all-done, all-fails, all-more}
