@@ -1,8 +1,8 @@
 """Climb lists and their steps: builders for tests, a reader of climb text, up and down on
-tables, and the tally of demand 3.
+tables, walks, and the tally of demand 3.
 
-Written from document 01, section "Climbing", whose sentences the comments quote. Shares nothing
-with the proved code; the tally shares nothing with up and down.
+Written from document 01, section "Climbing", and 02, Ask 6, whose sentences the comments quote.
+Shares nothing with the proved code; the tally shares nothing with up, down and walks.
 """
 
 import re
@@ -10,6 +10,7 @@ from typing import NamedTuple
 
 # 01, "Numbers given back".
 DONE = 0
+OVER_LIMIT = 9
 NO_ROOM = 12
 NOT_OF_FORM = 13
 NOT_ALLOWED = 14
@@ -22,6 +23,10 @@ COUNT_LIMIT = 65536
 STEP_LIMIT = 4096
 MOVE_LIMIT = 64
 FACE_LIMIT = 64
+
+# 02, Ask 6: a wish is (direction, count), and is refused "above 4,096".
+WISH_UP, WISH_DOWN = 0, 1
+WISH_LIMIT = 4096
 
 # Records of the tables, in numbers.
 POSITION_SIZE = 3
@@ -353,6 +358,21 @@ def _write_new(faces, positions, lower, new_faces, place):
     faces[at:at + len(new_faces)] = new_faces
     at = lower.positions * POSITION_SIZE
     positions[at:at + POSITION_SIZE] = place
+
+
+def walk(wishes, step):
+    """The number and the granted steps of a walk. `step` asks for one step, up (True) or down, and
+    answers its number: 02 has "asking one step at a time up to and including that refusal"."""
+    granted = 0
+    for direction, count in wishes:
+        if count > WISH_LIMIT or direction not in (WISH_UP, WISH_DOWN):
+            return OVER_LIMIT, granted
+        for _ in range(count):
+            number = step(direction == WISH_UP)
+            if number != DONE:
+                return number, granted
+            granted += 1
+    return DONE, granted
 
 
 # The tally.

@@ -7,6 +7,7 @@ then the calls are made. Words of the tables are FILL before. A refused mesh has
 shadings; of a refused text no words are lent.
 """
 
+import re
 from typing import NamedTuple
 
 from u3d import blocks, climb, mesh
@@ -230,8 +231,26 @@ def climb_fields(read, text, calls):
     if number != climb.DONE:
         return 0
     counts = Counts(read.counts[mesh.POSITIONS], read.counts[mesh.FACES])
-    for letter in calls:
-        step = climb.up if letter == "u" else climb.down
-        number, counts = step(steps[:words], read.shading_count, *read.tables[:2], counts)
-        yield letter, number, *counts
-    return len(calls)
+
+    def step(is_up):
+        nonlocal counts
+        move = climb.up if is_up else climb.down
+        number, counts = move(steps[:words], read.shading_count, *read.tables[:2], counts)
+        return number
+
+    made = calls_in(calls)
+    for call in made:
+        if call in "ud":
+            yield call, step(call == "u"), *counts
+        else:
+            yield "walk", *climb.walk(wishes_in(call), step), *counts
+    return len(made)
+
+
+def calls_in(word):
+    """Letters that have a count after them stand together in a walk; any other is a call."""
+    return re.findall("(?:[ud][0-9]+)+|[ud]", word)
+
+
+def wishes_in(call):
+    return [("ud".index(letter), int(count)) for letter, count in re.findall("(.)([0-9]+)", call)]

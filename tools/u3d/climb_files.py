@@ -669,6 +669,12 @@ def cases():
 
 # The sample of the program climb_mesh.
 
+# Single calls, and walks: one that is done, one refused as 14 at the wrong step, one as 16 at the
+# bottom with a request after it, one as 9 after two steps, one as 9 at once; 0 steps; and 4,096.
+SAMPLE_CALLS = ("duuudu", "u1d2", "uuuu", "d3u9", "d", "d9u1", "d", "u2u4097d1", "u", "d4294967295", "u",
+                "u0d0", "d", "d4096", "u")
+
+
 def sample():
     """The mesh sample, a climb text for its first base mesh, and calls. The last step is not
     allowed: it moves a corner that holds another position."""
@@ -679,4 +685,4 @@ def sample():
     corners = [read.tables[FACES][FACE_SIZE * face:][1:FACE_SIZE:CORNER_SIZE] for face in range(faces)]
     climb = random_list(Dice(9), corners, positions, read.shading_count, 5, 4)
     wrong = Step(positions, ONE, ((0, 0), (0, 1)))
-    return data, climb_text(climb._replace(steps=climb.steps + (wrong,))), "duuududuuuuuddddddu"
+    return data, climb_text(climb._replace(steps=climb.steps + (wrong,))), "".join(SAMPLE_CALLS)

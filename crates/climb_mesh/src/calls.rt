@@ -1,29 +1,22 @@
-// The word of calls: a letter for each.
+// The calls of a word, made in turn.
 use crate::print::print_end;
+use crate::print::print_progress;
 use crate::print::print_step;
+use crate::word::Asked;
+use crate::word::asked_at;
+use crate::word::byte_at;
+use crate::word::call_count;
 use progressive::counts::Counts;
 use progressive::counts::Stepped;
 use progressive::refine::coarsen;
 use progressive::refine::refine;
+use progressive::requests::Progress;
+use progressive::requests::take_request;
 
-fn is_letter(byte: u8) -> bool {
-    if byte == b'u' {
-        return true;
-    }
-    byte == b'd'
-}
+// Directions of a request.
+const UP: u32 = 0;
 
-// Whether every byte is u or d.
-pub(crate) fn are_letters(calls: &[u8]) -> bool {
-    let mut i: usize = 0;
-    while i < calls.len() {
-        if !is_letter(calls[i]) {
-            return false;
-        }
-        i += 1;
-    }
-    true
-}
+const DOWN: u32 = 1;
 
 fn step(
     letter: u8,
@@ -40,7 +33,7 @@ fn step(
     }
 }
 
-// Makes one call, prints its answer, and hands out the counts after it.
+// Takes one step, prints its answer, and hands out the counts after it.
 fn print_call(
     letter: u8,
     steps: &[u32],
@@ -57,20 +50,91 @@ fn print_call(
     }
 }
 
+fn direction_of(letter: u8) -> u32 {
+    if letter == b'u' {
+        return UP;
+    }
+    DOWN
+}
+
+// A walk that has taken no request.
+fn walk_from(counts: Counts) -> Progress {
+    Progress {
+        number: 0,
+        granted: 0,
+        positions: counts.positions,
+        faces: counts.faces,
+    }
+}
+
+fn counts_of(progress: Progress) -> Counts {
+    Counts {
+        positions: progress.positions,
+        faces: progress.faces,
+    }
+}
+
+// Prints what a walk has come to; what follows starts from its counts.
+fn end_walk(progress: Progress) -> Progress {
+    print_progress(progress);
+    walk_from(counts_of(progress))
+}
+
+// Does what the byte at a place asks for.
+fn follow(
+    word: &[u8],
+    at: usize,
+    steps: &[u32],
+    shadings: u32,
+    faces: &mut [u32],
+    positions: &mut [u32],
+    progress: Progress,
+) -> Progress {
+    let letter = byte_at(word, at);
+    match asked_at(word, at) {
+        Asked::Step => {
+            let counts = counts_of(progress);
+            walk_from(print_call(letter, steps, shadings, faces, positions, counts))
+        }
+        Asked::Request(count) => {
+            let direction = direction_of(letter);
+            take_request(
+                direction,
+                count,
+                steps,
+                shadings,
+                faces,
+                positions,
+                progress,
+            )
+        }
+        Asked::WalkEnd => end_walk(progress),
+        _ => progress,
+    }
+}
+
 // Makes the calls in turn.
 pub(crate) fn print_calls(
-    calls: &[u8],
+    word: &[u8],
     steps: &[u32],
     shadings: u32,
     faces: &mut [u32],
     positions: &mut [u32],
     counts: Counts,
 ) {
-    let mut now = counts;
+    let mut progress = walk_from(counts);
     let mut i: usize = 0;
-    while i < calls.len() {
-        now = print_call(calls[i], steps, shadings, &mut *faces, &mut *positions, now);
+    while i < word.len() {
+        progress = follow(
+            word,
+            i,
+            steps,
+            shadings,
+            &mut *faces,
+            &mut *positions,
+            progress,
+        );
         i += 1;
     }
-    print_end(calls.len());
+    print_end(call_count(word));
 }

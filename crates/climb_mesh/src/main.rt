@@ -1,12 +1,12 @@
-// Reads the first base mesh of a file and a climb text, makes the calls of a word of u and d (up and down), and prints after each
-// the number given back and the counts of positions and faces.
+// Reads the first base mesh of a file and a climb text, makes the calls of a word, single steps and walks, and prints after each the
+// number given back and the counts of positions and faces.
 mod calls;
 mod print;
+mod word;
 
 use blocks::file::Walk;
 use blocks::file::walk_blocks;
 use blocks::parts::data_part;
-use calls::are_letters;
 use calls::print_calls;
 use climb::ClimbRead;
 use climb::read_climb;
@@ -30,6 +30,7 @@ use rows::Declared;
 use rows::declaration_of;
 use rows::is_base_mesh;
 use rows::offset_in;
+use word::are_calls;
 
 // Room for 65,536 faces and positions.
 const FACE_ROOM: usize = 1245184;
@@ -44,6 +45,11 @@ const STEP_ROOM: usize = 20480;
 
 fn print_message(text: &[u8]) {
     io::write_all(STDERR_FILENO, text);
+}
+
+fn print_call_form() {
+    print_message(b"a call is u (one step up) or d (one step down), or a walk: ");
+    print_message(b"letters with a number of steps after each, at most 4294967295, as in u12d3\n");
 }
 
 // The text's answer; a text above 64 KiB is refused.
@@ -225,15 +231,16 @@ fn main() {
     let mut word = io::buffer();
     if os::arg_count() != 4 {
         print_message(b"usage: climb_mesh FILE CLIMB CALLS\n");
+        print_call_form();
         return;
     }
     let length = os::arg(3, &mut word);
     if os::errno() != 0 {
-        print_message(b"at most 4,096 calls\n");
+        print_message(b"the calls are at most 4,096 letters and digits\n");
         return;
     }
-    if !are_letters(&word[..length]) {
-        print_message(b"a call is u (up) or d (down)\n");
+    if !are_calls(&word[..length]) {
+        print_call_form();
         return;
     }
     run(&word[..length]);

@@ -6,6 +6,7 @@ use mesh::base::MeshRead;
 use mesh::base::Part;
 use progressive::counts::Counts;
 use progressive::counts::Stepped;
+use progressive::requests::Progress;
 
 pub(crate) fn print_text(text: &[u8]) {
     io::write_all(STDOUT_FILENO, text);
@@ -82,6 +83,14 @@ pub(crate) fn print_step(letter: u8, stepped: Stepped) {
         Stepped::Done(counts) => print_answer(0, counts),
         Stepped::Refused(refusal, counts) => print_answer(refusal.number, counts),
     }
+}
+
+// A walk's number, the steps granted, and the counts after them.
+pub(crate) fn print_progress(progress: Progress) {
+    print_text(b"walk");
+    print_field(progress.number as u64);
+    print_field(progress.granted);
+    print_counts(progress.positions, progress.faces);
 }
 
 // How many calls were made.

@@ -1,5 +1,5 @@
--- The tables keep their lengths; the measure is the calls left.
-use Prim.Native.Nat.{_≤_, _-_}
+-- The tables keep their lengths; the measure is what is left of the word.
+use Prim.Native.Nat.{_-_}
 use mathlib.Core.Path.{_≡_}
 use lib.ListN.{length}
 use borrow.Author.Needs.{needs}
@@ -7,19 +7,19 @@ use Rattle.climb_mesh.proofs.calls.print_calls.Statement.{statement}
 use Rattle.climb_mesh.proofs.calls.print_calls.Tie as tie
 
 abbrev Inv-loop : tie.InvT-loop
-Inv-loop calls steps shadings faces₀ positions₀ now₀ i₀ faces positions now i = (i ≤ length calls) × (length faces ≡ length faces₀) × (length positions ≡ length positions₀)
+Inv-loop word steps shadings faces₀ positions₀ progress₀ i₀ faces positions progress i = (length faces ≡ length faces₀) × (length positions ≡ length positions₀)
 
 abbrev μ-loop : tie.MeasureT-loop
-μ-loop calls steps shadings faces₀ positions₀ now₀ i₀ faces positions now i = length calls - i
+μ-loop word steps shadings faces₀ positions₀ progress₀ i₀ faces positions progress i = length word - i
+
+walk-from-requires : tie.Need-walk-from-requires Inv-loop μ-loop
+walk-from-requires c κs = search needs
 
 loop-holds : tie.Need-loop-holds Inv-loop μ-loop
 loop-holds c = search needs
 
-shared-slice-read-print-call : tie.Need-shared-slice-read-print-call Inv-loop μ-loop
-shared-slice-read-print-call c = search needs
-
-print-call-requires : tie.Need-print-call-requires Inv-loop μ-loop
-print-call-requires c κs = search needs
+follow-requires : tie.Need-follow-requires Inv-loop μ-loop
+follow-requires c κs = search needs
 
 add-i : tie.Need-add-i Inv-loop μ-loop
 add-i c = search needs
@@ -29,6 +29,9 @@ loop-less c = search needs
 
 loop-again : tie.Need-loop-again Inv-loop μ-loop
 loop-again c = search needs
+
+call-count-requires : tie.Need-call-count-requires Inv-loop μ-loop
+call-count-requires c κs = search needs
 
 print-end-requires : tie.Need-print-end-requires Inv-loop μ-loop
 print-end-requires c κs = search needs
@@ -48,12 +51,13 @@ print-calls-spec =
     (tie.spec
     Inv-loop
     μ-loop
+    walk-from-requires
     loop-holds
-    shared-slice-read-print-call
-    print-call-requires
+    follow-requires
     add-i
     loop-less
     loop-again
+    call-count-requires
     print-end-requires
     same-length
     same-length-2

@@ -1,24 +1,24 @@
--- The measure is what is left of the calls.
-use Prim.Native.Nat.{_≤_, _-_}
+-- The measure is what is left of the word.
+use Prim.Native.Nat.{_-_}
 use lib.ListN.{length}
 use borrow.Author.Needs.{needs}
-use Rattle.climb_mesh.proofs.calls.are_letters.Statement.{statement}
-use Rattle.climb_mesh.proofs.calls.are_letters.Tie as tie
+use Rattle.climb_mesh.proofs.word.are_calls.Statement.{statement}
+use Rattle.climb_mesh.proofs.word.are_calls.Tie as tie
 
 abbrev Inv-loop : tie.InvT-loop
-Inv-loop calls i₀ i = i ≤ length calls
+Inv-loop word i₀ i = Unit {0}
 
 abbrev μ-loop : tie.MeasureT-loop
-μ-loop calls i₀ i = length calls - i
+μ-loop word i₀ i = length word - i
 
 loop-holds : tie.Need-loop-holds Inv-loop μ-loop
 loop-holds c = search needs
 
-shared-slice-read-is-letter : tie.Need-shared-slice-read-is-letter Inv-loop μ-loop
-shared-slice-read-is-letter c = search needs
+asked-at-requires : tie.Need-asked-at-requires Inv-loop μ-loop
+asked-at-requires c κs = search needs
 
-is-letter-requires : tie.Need-is-letter-requires Inv-loop μ-loop
-is-letter-requires c κs = search needs
+enum-told : tie.Need-enum-told Inv-loop μ-loop
+enum-told c = search needs
 
 returns : tie.Need-returns Inv-loop μ-loop
 returns c = search needs
@@ -35,15 +35,15 @@ loop-again c = search needs
 returns-2 : tie.Need-returns-2 Inv-loop μ-loop
 returns-2 c = search needs
 
-pub are-letters-spec : {M : Type 1} → statement M
-are-letters-spec =
+pub are-calls-spec : {M : Type 1} → statement M
+are-calls-spec =
     tie.close
     (tie.spec
     Inv-loop
     μ-loop
     loop-holds
-    shared-slice-read-is-letter
-    is-letter-requires
+    asked-at-requires
+    enum-told
     returns
     add-i
     loop-less
