@@ -10,8 +10,8 @@ from pathlib import Path
 sys.dont_write_bytecode = True
 
 from u3d import (  # noqa: E402 (after the setting above)
-    block_files, blocks, climb_calls, climb_files, coder_calls, coder_files, coder_refusals, mesh,
-    mesh_files)
+    block_files, blocks, climb_calls, climb_files, climb_walks, coder_calls, coder_files,
+    coder_refusals, mesh, mesh_files)
 
 CRATES = Path("crates")
 
@@ -169,15 +169,15 @@ def read_mesh():
 
 
 def progressive_runs():
-    """Climb texts, and calls of up and down on the meshes that are read with them."""
-    cases = climb_files.cases()
+    """Climb texts, and calls of up, down and walks on the meshes that are read with them."""
+    cases = climb_files.cases() + climb_walks.cases()
     inputs = [(case.name, climb_calls.stored(case)) for case in cases]
     stdout = lines("\t".join(map(str, fields)) for case in cases for fields in climb_report(case))
     return run_files("progressive_runs", inputs, stdout)
 
 
 def climb_report(case):
-    """Up and down must agree with the answers worked out by hand, and with the tally."""
+    """The calls must agree with the answers worked out by hand, and with the tally."""
     try:
         return list(climb_calls.output(case))
     except climb_calls.Differs as differs:

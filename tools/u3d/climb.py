@@ -6,6 +6,7 @@ Shares nothing with the proved code; the tally shares nothing with up, down and 
 """
 
 import re
+from functools import lru_cache
 from typing import NamedTuple
 
 # 01, "Numbers given back".
@@ -24,9 +25,10 @@ STEP_LIMIT = 4096
 MOVE_LIMIT = 64
 FACE_LIMIT = 64
 
-# 02, Ask 6: a wish is (direction, count), and is refused "above 4,096".
-WISH_UP, WISH_DOWN = 0, 1
-WISH_LIMIT = 4096
+# 02, Ask 6: a request of a walk (a "wish") is a direction and a count, refused "above 4,096".
+REQUEST_UP = 0
+REQUEST_DOWN = 1
+REQUEST_LIMIT = 4096
 
 # Records of the tables, in numbers.
 POSITION_SIZE = 3
@@ -191,8 +193,10 @@ class Counts(NamedTuple):
     faces: int
 
 
+@lru_cache(maxsize=4)
 def list_of(words):
-    """The list of a step table, None where it is not of the form."""
+    """The list of a step table (a tuple: a long one is read once for many steps), None where it is
+    not of the form."""
     try:
         return _Words(words).climb()
     except _Refused:
@@ -360,15 +364,15 @@ def _write_new(faces, positions, lower, new_faces, place):
     positions[at:at + POSITION_SIZE] = place
 
 
-def walk(wishes, step):
+def walk(requests, step):
     """The number and the granted steps of a walk. `step` asks for one step, up (True) or down, and
     answers its number: 02 has "asking one step at a time up to and including that refusal"."""
     granted = 0
-    for direction, count in wishes:
-        if count > WISH_LIMIT or direction not in (WISH_UP, WISH_DOWN):
+    for direction, count in requests:
+        if count > REQUEST_LIMIT or direction not in (REQUEST_UP, REQUEST_DOWN):
             return OVER_LIMIT, granted
         for _ in range(count):
-            number = step(direction == WISH_UP)
+            number = step(direction == REQUEST_UP)
             if number != DONE:
                 return number, granted
             granted += 1
@@ -402,6 +406,16 @@ class Tally:
         if number == 0:
             self.k += 1
         return number
+
+    def walk(self, requests):
+        """02: "takes a walk as those single steps, and a refused wish as a 9 that leaves k; it
+        answers the walk with the first refusal's number, or 0 if there is none". Answers the number,
+        and how many steps were granted."""
+        for granted, is_up in enumerate(_tally_asks(requests)):
+            number = 9 if is_up is None else self.call(is_up)
+            if number != 0:
+                return number, granted
+        return 0, sum(count for _, count in requests)
 
     def judge(self, steps):
         """Up, after 13."""
@@ -454,6 +468,12 @@ class Tally:
         """Positions, faces."""
         faces, positions = self.mesh(self.k)
         return len(positions), len(faces)
+
+
+def _tally_asks(requests):
+    """For each single step whether it is up, and None for a request that is refused."""
+    for direction, count in requests:
+        yield from [None] if count > 4096 or direction > 1 else [direction == 0] * count
 
 
 def _tally_steps(words):

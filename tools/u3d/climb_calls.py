@@ -1,10 +1,11 @@
-"""Calls of up and down, as a stored file tells them, and all that they answer.
+"""Calls of up, down and walks, as a stored file tells them, and all that they answer.
 
 A file: U32 lengths of the face table, the position table and the step table; U32 sizes of the
 declaration's data, the continuation's data and the climb text; these three parts; and to the end
 calls of three U32: operation, a, b. The mesh is read first, then the text into the step table,
 then the calls are made. Words of the tables are FILL before. A refused mesh has no counts and no
-shadings; of a refused text no words are lent.
+shadings; of a refused text no words are lent. A walk is told request by request, and answers
+after each what it has come to.
 """
 
 import re
@@ -28,6 +29,8 @@ LEND_STEPS = 7  # the first a words
 BREATHE = 8  # a times up to a refusal and down to one, at most b steps each way
 LEND_TABLES = 9  # the first a words of the face table, b of the position table
 FILL_STEPS = 10  # the step table from a on
+WALK = 11  # a request, direction a and count b, that begins a walk
+WALK_ON = 12  # one more request of the same walk, right after the one before
 
 # The rooms of the program: 65,537 records, and 4,097 steps.
 ROOMS = (65537 * climb.FACE_SIZE, 65537 * climb.POSITION_SIZE,
@@ -38,8 +41,9 @@ COPY_ROOM = 8192
 
 
 class Case(NamedTuple):
-    """`answer` is the text's number and place, `numbers` those of each up and down; by hand, or
-    None. `lengths` are those of faces, positions and steps."""
+    """`answer` is the text's number and place, `numbers` those of each up and down, and for a
+    request the number and the granted steps of its walk so far; by hand, or None. `lengths` are those of
+    faces, positions and steps."""
 
     name: str
     declaration: bytes
@@ -72,6 +76,15 @@ def checksum(table):
     return "%08x" % total
 
 
+class Walked(NamedTuple):
+    """A walk: the tally's k where it began, its requests, and its number and granted steps so far."""
+
+    k: int
+    requests: tuple = ()
+    number: int = climb.DONE
+    granted: int = 0
+
+
 class Session:
     """The tables, the counts and what is lent of the tables, before the first call."""
 
@@ -85,38 +98,62 @@ class Session:
         self.steps = steps
         self.answer = climb.read_climb(case.text, steps)
         self.lent = [len(faces), len(positions), self.answer[2]]
+        self.words = tuple(steps[:self.lent[2]])
         self.tally = self.new_tally()
+        self.walked = None
 
     def new_tally(self):
         """Where both are read, and the list states the base's counts."""
-        words = self.steps[:self.lent[2]]
-        if self.read.number or self.answer[0] or tuple(words[:2]) != self.counts:
+        if self.read.number or self.answer[0] or self.words[:2] != self.counts:
             return None
         records = [records_of(table, count, size) for table, count, size in (
             (self.faces, self.counts.faces, climb.FACE_SIZE),
             (self.positions, self.counts.positions, climb.POSITION_SIZE))]
-        return Tally(*records, self.shadings, words, self.lent[:2])
+        return Tally(*records, self.shadings, self.words, self.lent[:2])
 
     def step(self, is_up):
-        """The number of an up or a down, on the parts that are lent."""
-        faces, positions = self.faces[:self.lent[0]], self.positions[:self.lent[1]]
-        move = climb.up if is_up else climb.down
-        number, self.counts = move(self.steps[:self.lent[2]], self.shadings, faces, positions, self.counts)
-        self.faces[:self.lent[0]], self.positions[:self.lent[1]] = faces, positions
-        self.compare(is_up, number)
+        """The number of an up or a down."""
+        self.walked = None
+        number = self.take(is_up)
+        self.compare(lambda tally: tally.call(is_up), number)
         return number
 
-    def compare(self, is_up, number):
+    def take(self, is_up):
+        """One step, on the parts that are lent."""
+        faces, positions = self.faces[:self.lent[0]], self.positions[:self.lent[1]]
+        move = climb.up if is_up else climb.down
+        number, self.counts = move(self.words, self.shadings, faces, positions, self.counts)
+        self.faces[:self.lent[0]], self.positions[:self.lent[1]] = faces, positions
+        return number
+
+    def request(self, request, begins):
+        """What a walk has come to, number and granted steps, after one more request."""
+        if begins:
+            self.walked = Walked(self.tally and self.tally.k)
+        k, requests, number, granted = self.walked
+        if number == climb.DONE:
+            number, more = climb.walk([request], self.take)
+            granted += more
+        self.walked = Walked(k, (*requests, request), number, granted)
+        self.compare(self.tally_walk, (number, granted))
+        return number, granted
+
+    def tally_walk(self, tally):
+        """The tally takes the walk whole, from where it began."""
+        tally.k = self.walked.k
+        return tally.walk(self.walked.requests)
+
+    def compare(self, ask, answer):
         """The tally must agree, as long as nothing but calls has happened."""
         if self.tally is None:
             return
-        counted = self.tally.call(is_up), self.tally.counts(), self.tally.tables()
-        if counted != (number, self.counts, (self.faces, self.positions)):
-            raise Differs("%d, by the tally %d" % (number, counted[0]))
+        counted = ask(self.tally), self.tally.counts(), self.tally.tables()
+        if counted != (answer, self.counts, (self.faces, self.positions)):
+            raise Differs("%s, by the tally %s" % (answer, counted[0]))
 
     def change(self, operation, a, b):
         """An operation that prints nothing."""
-        self.tally = None
+        self.tally = self.walked = None
         tables = {SET_FACE: self.faces, SET_POSITION: self.positions, SET_STEP: self.steps}
         if operation in tables and a < len(tables[operation]):
             tables[operation][a] = b
@@ -130,6 +167,7 @@ class Session:
             self.lent[:2] = min(a, len(self.faces)), min(b, len(self.positions))
         elif operation == FILL_STEPS:
             self.steps[a:] = [b] * len(self.steps[a:])
+        self.words = tuple(self.steps[:self.lent[2]])
 
     def breath(self, limit):
         """How many steps a breath takes."""
@@ -180,17 +218,24 @@ def output(case):
 
 
 def call_fields(session, call, numbers):
-    """The line of a call, if it has one; `numbers` grows by an up's or a down's."""
+    """The line of a call, if it has one; `numbers` grows by its answer."""
     operation, a, b = call
     if call in (UP, DOWN):
         number = session.step(call == UP)
         numbers.append(number)
-        tables = checksum(session.faces), checksum(session.positions)
-        yield "up" if call == UP else "down", number, 0, *session.counts, *tables
+        yield "up" if call == UP else "down", number, 0, *session.counts, *table_fields(session)
+    elif operation in (WALK, WALK_ON):
+        answer = session.request((a, b), operation == WALK)
+        numbers.append(answer)
+        yield "walk" if operation == WALK else "on", *answer, *session.counts, *table_fields(session)
     elif operation == BREATHE:
         yield "breathed", *session.breathe(a, b)
     else:
         session.change(operation, a, b)
+
+
+def table_fields(session):
+    return checksum(session.faces), checksum(session.positions)
 
 
 # The program climb_mesh.
@@ -235,7 +280,7 @@ def climb_fields(read, text, calls):
     def step(is_up):
         nonlocal counts
         move = climb.up if is_up else climb.down
-        number, counts = move(steps[:words], read.shading_count, *read.tables[:2], counts)
+        number, counts = move(tuple(steps[:words]), read.shading_count, *read.tables[:2], counts)
         return number
 
     made = calls_in(calls)
@@ -243,7 +288,7 @@ def climb_fields(read, text, calls):
         if call in "ud":
             yield call, step(call == "u"), *counts
         else:
-            yield "walk", *climb.walk(wishes_in(call), step), *counts
+            yield "walk", *climb.walk(requests_in(call), step), *counts
     return len(made)
 
 
@@ -252,5 +297,5 @@ def calls_in(word):
     return re.findall("(?:[ud][0-9]+)+|[ud]", word)
 
 
-def wishes_in(call):
+def requests_in(call):
     return [("ud".index(letter), int(count)) for letter, count in re.findall("(.)([0-9]+)", call)]

@@ -9,6 +9,8 @@ use crate::stored::Call;
 use crate::stored::call_count;
 use crate::stored::call_in;
 use crate::table::store_from;
+use crate::walk::begun;
+use crate::walk::print_request;
 use fields::words::put;
 use progressive::counts::Counts;
 
@@ -34,6 +36,11 @@ const BREATHE: u32 = 8;
 const LEND_TABLES: u32 = 9;
 
 const FILL_STEPS: u32 = 10;
+
+// A request that begins a walk, and one that goes on with it.
+const WALK: u32 = 11;
+
+const WALK_ON: u32 = 12;
 
 // One step, and its line.
 fn print_call(
@@ -100,6 +107,8 @@ fn perform(
         UP => print_call(true, &*steps, faces, positions, state),
         DOWN => print_call(false, &*steps, faces, positions, state),
         BREATHE => breathe(call.a, call.b, &*steps, faces, positions, state),
+        WALK => print_request(b"walk", call, &*steps, faces, positions, begun(state)),
+        WALK_ON => print_request(b"on", call, &*steps, faces, positions, state),
         _ => {
             change_table(call, steps, faces, positions);
             change_state(call, state)

@@ -6,6 +6,7 @@ mod print;
 mod state;
 mod stored;
 mod table;
+mod walk;
 
 use calls::perform_all;
 use climb::ClimbRead;
@@ -82,7 +83,22 @@ fn first_state(mesh: MeshRead, climb: ClimbRead, faces: usize, positions: usize)
         faces,
         positions,
         steps,
+        number: 0,
+        granted: 0,
     }
+}
+
+// The calls that follow a mesh and a text.
+fn run_calls(
+    file: &[u8],
+    mesh: MeshRead,
+    climb: ClimbRead,
+    faces: &mut [u32],
+    positions: &mut [u32],
+    steps: &mut [u32],
+) {
+    let state = first_state(mesh, climb, faces.len(), positions.len());
+    perform_all(calls_of(file), steps, faces, positions, state);
 }
 
 fn run_with(file: &[u8], faces: &mut [u32], positions: &mut [u32], steps: &mut [u32]) {
@@ -90,8 +106,7 @@ fn run_with(file: &[u8], faces: &mut [u32], positions: &mut [u32], steps: &mut [
     print_mesh(mesh);
     let climb = read_climb(text_of(file), &mut *steps);
     print_climb(climb, &*steps);
-    let state = first_state(mesh, climb, faces.len(), positions.len());
-    perform_all(calls_of(file), steps, faces, positions, state);
+    run_calls(file, mesh, climb, faces, positions, steps);
 }
 
 // The same with tables of the lengths that the file asks for, in the rooms for the largest.

@@ -7,6 +7,7 @@ use mesh::base::MeshRead;
 use mesh::base::Part;
 use progressive::counts::Counts;
 use progressive::counts::Stepped;
+use progressive::requests::Progress;
 
 pub(crate) fn print_text(text: &[u8]) {
     io::write_all(STDOUT_FILENO, text);
@@ -70,6 +71,12 @@ fn print_counts(counts: Counts) {
     print_field(counts.faces as u64);
 }
 
+fn print_tables(faces: &[u32], positions: &[u32]) {
+    print_checksum(faces);
+    print_checksum(positions);
+    print_text(b"\n");
+}
+
 // The answer's number and place, the counts, and what the tables hold.
 pub(crate) fn print_step(name: &[u8], stepped: Stepped, faces: &[u32], positions: &[u32]) {
     print_text(name);
@@ -83,9 +90,17 @@ pub(crate) fn print_step(name: &[u8], stepped: Stepped, faces: &[u32], positions
             print_counts(counts);
         }
     }
-    print_checksum(faces);
-    print_checksum(positions);
-    print_text(b"\n");
+    print_tables(faces, positions);
+}
+
+// What a walk has come to: its number, the steps granted, the counts, and what the tables hold.
+pub(crate) fn print_progress(name: &[u8], progress: Progress, faces: &[u32], positions: &[u32]) {
+    print_text(name);
+    print_field(progress.number as u64);
+    print_field(progress.granted);
+    print_field(progress.positions as u64);
+    print_field(progress.faces as u64);
+    print_tables(faces, positions);
 }
 
 // How many steps were taken, and whether all is as before.

@@ -1,4 +1,5 @@
-// What a call is made with: the counts, the shading count, and how many words of each table are lent.
+// What a call is made with: the counts, the shading count, and how many words of each table are lent; and of the last walk its number
+// and the steps granted.
 use crate::table::lent;
 use crate::table::lent_steps;
 use progressive::counts::Counts;
@@ -12,6 +13,8 @@ pub struct State {
     pub faces: usize,
     pub positions: usize,
     pub steps: usize,
+    pub number: u32,
+    pub granted: u64,
 }
 
 pub(crate) fn with_counts(state: State, counts: Counts) -> State {
@@ -21,6 +24,8 @@ pub(crate) fn with_counts(state: State, counts: Counts) -> State {
         faces: state.faces,
         positions: state.positions,
         steps: state.steps,
+        number: state.number,
+        granted: state.granted,
     }
 }
 
