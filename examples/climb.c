@@ -111,6 +111,20 @@ static void climb(int upward, size_t words)
     printf("%s: refused, %" PRIu32 "\n", way, number);
 }
 
+/* Three steps up, one down and ten up, in one call. */
+static void walk(size_t words)
+{
+    const oysterfold_request requests[] = {{0, 3}, {1, 1}, {0, 10}};
+    uint64_t result[2];
+    uint32_t number = oysterfold_steps(
+        list, words, mesh.shadings, requests, sizeof requests / sizeof *requests, mesh.faces,
+        FACE_ROOM * OYSTERFOLD_FACE, mesh.positions, POSITION_ROOM * OYSTERFOLD_POSITION,
+        mesh.counts, 2, result, 2);
+
+    printf("walk: %" PRIu32 " after %" PRIu64 " steps, %" PRIu32 " positions, %" PRIu32 " faces\n",
+           number, result[1], mesh.counts[0], mesh.counts[1]);
+}
+
 int main(int argc, char **argv)
 {
     uint64_t result[2];
@@ -137,5 +151,6 @@ int main(int argc, char **argv)
     size_t words = (size_t)result[1];
     climb(1, words);
     climb(0, words);
+    walk(words);
     return 0;
 }

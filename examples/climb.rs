@@ -132,6 +132,32 @@ fn climb(mesh: &mut Mesh, list: &[u32], way: &str) {
     }
 }
 
+/// Three steps up, one down and ten up, in one call.
+fn walk_steps(mesh: &mut Mesh, list: &[u32]) {
+    let requests = [(0, 3), (1, 1), (0, 10)]
+        .map(|(direction, count)| oysterfold::Request { direction, count });
+    let mut result = [0; 2];
+    let Mesh {
+        faces,
+        positions,
+        counts,
+        shadings,
+    } = mesh;
+    let number = oysterfold::steps(
+        list,
+        *shadings,
+        &requests,
+        faces,
+        positions,
+        counts,
+        &mut result,
+    );
+    println!(
+        "walk: {number} after {} steps, {} positions, {} faces",
+        result[1], counts[0], counts[1]
+    );
+}
+
 fn main() {
     let args: Vec<String> = std::env::args().collect();
     let [_, file, text] = &args[..] else {
@@ -144,4 +170,5 @@ fn main() {
     let list = read_climb(&text);
     climb(&mut mesh, &list, "up");
     climb(&mut mesh, &list, "down");
+    walk_steps(&mut mesh, &list);
 }
