@@ -588,17 +588,22 @@ def changed_calls(dice, case, climb, shadings, count):
     return tuple(calls)
 
 
-def changed():
-    """Tables and lists that are changed between the calls."""
+def changed_cases(name, seed, steps, moves, calls_of):
+    """Tables and lists that are changed between the calls; `steps` is the fewest, and how many more."""
     cases = []
     for index in range(12):
-        dice = Dice(2000 + index)
+        dice = Dice(seed + index)
         mesh, corners, positions, shadings = random_mesh(dice)
-        climb = random_list(dice, corners, positions, shadings, 4 + dice.below(6), 4)
+        climb = random_list(dice, corners, positions, shadings, steps[0] + dice.below(steps[1]), moves)
         spare = 1 + dice.below(30), 1 + dice.below(9), 0
-        case = Case("changed-%02d.climb" % index, *mesh, climb_text(climb), room_for(climb, spare))
-        cases.append(case._replace(calls=changed_calls(dice, case, climb, shadings, 50)))
+        case = Case("%s-%02d.climb" % (name, index), *mesh, climb_text(climb), room_for(climb, spare))
+        cases.append(case._replace(calls=calls_of(dice, case, climb, shadings)))
     return cases
+
+
+def changed():
+    return changed_cases("changed", 2000, (4, 6), 4,
+                         lambda *drawn: changed_calls(*drawn, 50))
 
 
 def breaths():

@@ -18,7 +18,7 @@ from u3d.climb_calls import (
     Session)
 from u3d.climb_files import (
     DOWN_COUNTS, FAN, FAN_CORNERS, FAN_ROOM, HUGE, ONE, ORDER, POINT, THREE, TWO, UP_COUNTS, calls_case,
-    faults, random_change, random_list, random_mesh, room_for, undo)
+    changed_cases, faults, random_change, random_list, random_mesh, room_for, undo)
 
 LADDER = ClimbList(4, 5, (
     Step(0, ONE, ((0, 0),), ((1, 4, 0, 1),)), Step(4, TWO, ((0, 0), (5, 0))),
@@ -228,15 +228,8 @@ def changed_calls(dice, case, climb, shadings, count):
 
 def changed():
     """Tables and lists that are changed between the walks."""
-    cases = []
-    for index in range(12):
-        dice = Dice(4000 + index)
-        mesh, corners, positions, shadings = random_mesh(dice)
-        climb = random_list(dice, corners, positions, shadings, 6 + dice.below(9), 3)
-        spare = 1 + dice.below(30), 1 + dice.below(9), 0
-        case = Case("walk-changed-%02d.climb" % index, *mesh, climb_text(climb), room_for(climb, spare))
-        cases.append(case._replace(calls=changed_calls(dice, case, climb, shadings, 24)))
-    return cases
+    return changed_cases("walk-changed", 4000, (6, 9), 3,
+                         lambda *drawn: changed_calls(*drawn, 24))
 
 
 def cases():

@@ -164,8 +164,12 @@ impl Pair {
 
     /// A row: what was measured, then the times up and down.
     fn print_times(&self, mut cells: Vec<String>) {
-        cells.extend(cells_of(&self.independent.up, &self.library.up));
-        cells.extend(cells_of(&self.independent.down, &self.library.down));
+        let Pair {
+            independent,
+            library,
+        } = self;
+        cells.extend(cells_of(&independent.up, &library.up));
+        cells.extend(cells_of(&independent.down, &library.down));
         print_row(&cells);
     }
 }
