@@ -2,7 +2,7 @@
 use mathlib.Core.Path.{_≡_, refl, sym, ap, _∙_}
 use mathlib.Core.Bool.{Bool, true, false, _&&_}
 use mathlib.Core.List.{List}
-use Prim.Native.Nat.{ℕ, zero, suc, _+_, _-_, _*_, _<_, _≤_}
+use Prim.Native.Nat.{ℕ, zero, suc, _+_, _*_, _<_, _≤_}
 use native.Mathlib.Numerals.{add-one}
 use native.Mathlib.Omega.{arith}
 use borrow.Author.Tests.{leb-true, eqb-true, le-leb}
@@ -69,23 +69,23 @@ unfolding wellFormed
 formed-by-steps t {p} {f} {n} ep ef en h hp hf hn e =
     e ∙ rw (← ep, ← ef, ← en, le-leb headWords _ h, le-leb p _ hp, le-leb f _ hf, le-leb n _ hn)
 
-module _ (t : List ℕ) (e : wellFormed t ≡ true) where
-  pub step-of : (k : ℕ) → k < stepCount t → Formed t (stepOffset t k)
-  step-of k h = formed t (stepOffset t k) (all-at (stepFormedAt t) (stepCount t) k (formed-table t e .steps) h)
+-- ---- the first n steps are formed
+module _ (t : List ℕ) (n : ℕ) (e : all (stepFormedAt t) n ≡ true) where
+  step-of : (k : ℕ) → k < n → Formed t (stepOffset t k)
+  step-of k h = formed t (stepOffset t k) (all-at (stepFormedAt t) n k e h)
 
-  pub offset-within : (k : ℕ) → k ≤ stepCount t → stepOffset t k ≤ length t
+  pub offset-within : headWords ≤ length t → (k : ℕ) → k ≤ n → stepOffset t k ≤ length t
   unfolding stepOffset
-  offset-within zero h = formed-table t e .long
-  offset-within (suc k) h = step-of k h .body
+  offset-within long zero h = long
+  offset-within long (suc k) h = step-of k h .body
 
-  pub faces-within : (k : ℕ) → k ≤ stepCount t → facesBefore t k ≤ largestCount + mostNewFaces * k
+  pub faces-within : (k : ℕ) → k ≤ n → facesBefore t k ≤ baseFaces t + mostNewFaces * k
   unfolding facesBefore
-  faces-within zero h = omega (arith, formed-table t e .faces)
+  faces-within zero h = omega arith
   faces-within (suc k) h = omega (arith, faces-within k (omega arith), step-of k h .faces)
 
   -- a step has at most so many words
-  pub offset-short : (k : ℕ) → k ≤ stepCount t
-      → stepOffset t k ≤ headWords + (stepWords + moveWords * mostMoves + newFaceWords * mostNewFaces) * k
+  offset-short : (k : ℕ) → k ≤ n → stepOffset t k ≤ headWords + (stepWords + moveWords * mostMoves + newFaceWords * mostNewFaces) * k
   unfolding stepOffset
   offset-short zero h = omega arith
   offset-short (suc k) h = omega (arith, offset-short k (omega arith), step-of k h .moves, step-of k h .faces)
@@ -93,29 +93,38 @@ module _ (t : List ℕ) (e : wellFormed t ≡ true) where
 pub formed-at : (t : List ℕ) (k : ℕ) → wellFormed t ≡ true → k < stepCount t → stepFormed t (stepOffset t k) ≡ true
 formed-at t k e h = all-at (stepFormedAt t) (stepCount t) k (formed-table t e .steps) h
 
--- ---- the walk over the steps, for the loops that make it: at step k of `steps`, at offset `step`
-pub record Walked (t : List ℕ) (steps step k : ℕ) : Type 0 where
+-- ---- the walk over the steps, for the loop that makes it: at step k of `steps`, at offset `step`, past so many faces
+pub record Walked (t : List ℕ) (steps step faces k : ℕ) : Type 0 where
   pub so-far : k ≤ steps
   pub at : step ≡ stepOffset t k
+  pub counted : faces ≡ facesBefore t k
   pub within : step ≤ length t
   pub passed : all (stepFormedAt t) k ≡ true
 
-pub walk-starts : (t : List ℕ) (steps : ℕ) → headWords ≤ length t → Walked t steps 3 0
-unfolding stepOffset
-walk-starts t steps h = record { so-far = omega arith; at = refl; within = h; passed = refl }
+pub walk-starts : (t : List ℕ) (steps : ℕ) {f : ℕ} → headWords ≤ length t → f ≡ baseFaces t → Walked t steps headWords f 0
+unfolding stepOffset facesBefore
+walk-starts t steps h e = record { so-far = omega arith; at = refl; counted = e; within = h; passed = refl }
 
-module _ (t : List ℕ) (steps : ℕ) {step k : ℕ} (w : Walked t steps step k) where
+module _ (t : List ℕ) (steps : ℕ) {step faces k : ℕ} (w : Walked t steps step faces k) where
+  pub walk-short : step ≤ headWords + (stepWords + moveWords * mostMoves + newFaceWords * mostNewFaces) * k
+  walk-short = rw (w .at) (offset-short t k (w .passed) k (omega arith))
+
+  pub walk-few : faces ≤ baseFaces t + mostNewFaces * k
+  walk-few = rw (w .counted) (faces-within t k (w .passed) k (omega arith))
+
   step-test : {b : Bool} → b ≡ stepFormed t step → b ≡ stepFormedAt t k
   step-test e = e ∙ ap (stepFormed t) (w .at)
 
   pub walk-fails : {b : Bool} (rest : Bool) → k < steps → b ≡ stepFormed t step → b ≡ false → false ≡ all (stepFormedAt t) steps && rest
   walk-fails rest h e f = rw (all-fails (stepFormedAt t) steps k h (sym (step-test e) ∙ f))
 
-  pub walk-on : {b : Bool} {next : ℕ} → k < steps → b ≡ stepFormed t step → b ≡ true → next ≡ nextStep t step → Walked t steps next (k + 1)
-  unfolding stepOffset
-  walk-on h e f n = record {
+  pub walk-on : {b : Bool} {next new : ℕ} → k < steps → b ≡ stepFormed t step → b ≡ true → next ≡ nextStep t step → new ≡ newFaceCount t step
+      → Walked t steps next (faces + new) (k + 1)
+  unfolding stepOffset facesBefore
+  walk-on h e f n m = record {
     so-far = omega arith;
     at = rw (add-one k, ← w .at) n;
+    counted = rw (add-one k, ← w .at, ← w .counted, m);
     within = omega (arith, formed t step (sym e ∙ f) .body);
     passed = all-more (stepFormedAt t) k (w .passed) (sym (step-test e) ∙ f);
   }

@@ -7,18 +7,18 @@ use native.Mathlib.Numerals.{add-one}
 use native.Mathlib.Omega.{arith}
 use borrow.Author.Tests.{eq-eqb, eqb-true, le-leb, leb-true, not-false}
 use lib.ListN.{length}
-use Rattle.fields.specs.Limits.{largestCount, mostMoves, mostNewFaces, mostSteps}
+use Rattle.fields.specs.Limits.{largestCount, mostNewFaces, mostSteps}
 use Rattle.fields.specs.Numbers.{badSteps, countsDisagree}
 use Rattle.fields.specs.Judged.{done, refused}
 use Rattle.fields.proofs.Judging.{passed, same-done, value-before}
 use Rattle.progressive.specs.declared.levels.Place.{Place}
 use Rattle.progressive.specs.declared.levels.Reached.{Reached}
 use Rattle.progressive.specs.declared.levels.Walked.{Walked}
-use Rattle.progressive.specs.StepTable.{baseFaces, basePositions, facesBefore, headWords, moveWords, newFaceCount, newFaceWords, nextStep, stepCount, stepFormed, stepOffset, stepWords, wellFormed}
+use Rattle.progressive.specs.StepTable.{baseFaces, basePositions, facesBefore, headWords, newFaceCount, nextStep, stepCount, stepFormed, stepOffset, wellFormed}
 use Rattle.progressive.specs.Steps.{countsAgree, levelOf}
 use Rattle.progressive.specs.Inside.{Arrived, AtStep, placeAt, placeOf}
 use Rattle.progressive.proofs.Indexed.{and-left, and-right}
-use Rattle.progressive.proofs.Formed.{FormedTable, faces-within, formed-at, formed-table, offset-short, offset-within, test-failed}
+use Rattle.progressive.proofs.Formed.{FormedTable, faces-within, formed-at, formed-table, offset-within, test-failed}
 
 -- ---- from step to step
 
@@ -34,16 +34,14 @@ step-next t k {at} s e n = rw add-one (record { offset = e ∙ ap (nextStep t) (
 -- what a formed table tells of a step of it
 pub record Within (t : List ℕ) (at : Reached) : Type 0 where
   pub offset : at .offset ≤ length t
-  pub short : at .offset ≤ headWords + (stepWords + moveWords * mostMoves + newFaceWords * mostNewFaces) * mostSteps
   pub few : at .faces ≤ largestCount + mostNewFaces * mostSteps
 
 pub within : (t : List ℕ) (k : ℕ) {at : Reached} → wellFormed t ≡ true → k ≤ stepCount t → AtStep t k at → Within t at
 within t k e h s =
     let table : FormedTable t = formed-table t e in
     record {
-      offset = rw (s .offset) (offset-within t e k h);
-      short = omega (arith, s .offset, offset-short t e k h, table .count);
-      few = omega (arith, s .faces, faces-within t e k h, table .count);
+      offset = rw (s .offset) (offset-within t (stepCount t) (table .steps) (table .long) k h);
+      few = omega (arith, s .faces, faces-within t (stepCount t) (table .steps) k h, table .faces, table .count);
     }
 
 -- ---- the level of the present counts
@@ -120,7 +118,8 @@ at-level t f p place e =
     let facts : Agreeing t f p = agreeing t f p (not-false _ (agree .0)) in
     let table : FormedTable t = formed-table t formed in
     let level : p - basePositions t ≡ k .0 = same-done (agree .1) in
-    let small : facesBefore t (p - basePositions t) ≤ largestCount + mostNewFaces * (p - basePositions t) = faces-within t formed (p - basePositions t) (facts .steps) in
+    let small : facesBefore t (p - basePositions t) ≤ baseFaces t + mostNewFaces * (p - basePositions t) =
+    faces-within t (stepCount t) (table .steps) (p - basePositions t) (facts .steps) in
     rw (← same) (record {
       form = formed;
       judged = k .1;
@@ -130,7 +129,7 @@ at-level t f p place e =
       faces = rw (← level) (facts .faces);
       next-at = refl;
       last-at = refl;
-      few-faces = omega (arith, facts .faces, facts .steps, table .count);
+      few-faces = omega (arith, facts .faces, facts .steps, table .faces, table .count);
       few-positions = omega (arith, facts .steps, table .count, table .positions);
     })
 

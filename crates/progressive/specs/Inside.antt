@@ -2,10 +2,10 @@
 use mathlib.Core.Bool.{Bool, true}
 use mathlib.Core.Path.{_≡_}
 use mathlib.Core.List.{List}
-use Prim.Native.Nat.{ℕ, _+_, _-_, _*_, _/_, _<_, _≤_}
-use lib.ListN.{length, getD}
+use Prim.Native.Nat.{ℕ, _+_, _-_, _*_, _/_, _%_, _<_, _≤_}
+use lib.ListN.{length, getD, set}
 use Rattle.fields.specs.All.{all}
-use Rattle.fields.specs.Limits.{largestCount, mostSteps}
+use Rattle.fields.specs.Limits.{largestCount}
 use Rattle.fields.specs.Judged.{Judged, done, refused, onDone, pick}
 use Rattle.mesh.specs.Corners.{faceWords, absent, cornerFields}
 use lib.Dec.{eqb}
@@ -24,21 +24,29 @@ use Rattle.progressive.specs.Laying.{newFaceField, newFaceNumber}
 use Rattle.progressive.specs.Mesh.{Mesh}
 use Rattle.progressive.specs.Steps.{levelOf}
 
--- ---- marks: every so many steps, and how many marks the longest list has
+-- ---- marks: mark j is step markSteps * j
 
 abbrev pub markSteps : ℕ
 markSteps = 16
 
-abbrev pub marks : ℕ
-marks = mostSteps / markSteps
+-- a table of marks with the value v of step k, if that is one
+abbrev pub withMark : ℕ → ℕ → List ℕ → List ℕ
+withMark k v l = pick (eqb (k % markSteps) 0) (set l (k / markSteps) v) l
 
--- what was judged of a list and noted of its steps: mark j is step markSteps * j
+-- the marks before step n are noted, as far as the table goes
+abbrev pub Noted : (ℕ → ℕ) → List ℕ → ℕ → Type 0
+Noted val l n = (j : ℕ) → j < length l → markSteps * j < n → getD l j 0 ≡ val (markSteps * j)
+
+pub record MarksNoted (t offsets faces : List ℕ) (n : ℕ) : Type 0 where
+  pub offsets-noted : Noted (stepOffset t) offsets n
+  pub faces-noted : Noted (facesBefore t) faces n
+
+-- what was judged of a list and noted of its steps
 pub record Marked (t : List ℕ) (formed : Bool) (offsets faces : List ℕ) : Type 0 where
   pub judged : formed ≡ wellFormed t
   pub some : 0 < length offsets
   pub same : length faces ≡ length offsets
-  pub noted : wellFormed t ≡ true → (j : ℕ) → j < length offsets → markSteps * j ≤ stepCount t
-      → (getD offsets j 0 ≡ stepOffset t (markSteps * j)) × (getD faces j 0 ≡ facesBefore t (markSteps * j))
+  pub noted : wellFormed t ≡ true → MarksNoted t offsets faces (stepCount t)
 
 abbrev pub MarkedBy : List ℕ → Marks → Type 0
 MarkedBy t m = Marked t (m .formed) (m .offsets) (m .faces)

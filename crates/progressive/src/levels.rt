@@ -1,5 +1,6 @@
 // Levels of detail: which one the present counts are, and where its steps stand in the table.
 use crate::form::HEAD_WORDS;
+use crate::form::MARK_STEPS;
 use crate::form::NEW_FACE_COUNT;
 use crate::form::next_step;
 use crate::form::well_formed;
@@ -7,18 +8,13 @@ use crate::words::number;
 use fields::limits::MOST_STEPS;
 use fields::numbers::BAD_STEPS;
 use fields::numbers::COUNTS_DISAGREE;
-use fields::words::put;
-use fields::words::word;
 ghost use mathlib.Core.Path.{_≡_};
 ghost use mathlib.Core.Bool.{true};
 ghost use Prim.Native.Nat.{_+_, _*_, _<_, _≤_};
-ghost use lib.ListN.{length};
 ghost use Rattle.progressive.specs.StepTable.{stepCount, wellFormed};
-ghost use Rattle.progressive.specs.Inside.{Arrived, AtStep, Marked, MarkedBy, locatedGiven, markSteps, marks, placeOf};
+ghost use Rattle.progressive.specs.Inside.{Arrived, AtStep, Marked, MarkedBy, locatedGiven, markSteps, placeOf};
 
-// The steps from one mark to the next, and the marks of the longest list.
-const MARK_STEPS: usize = 16;
-
+// The marks of the longest list.
 const MARKS: usize = MOST_STEPS as usize / MARK_STEPS;
 
 // The steps of a list that are noted, every MARK_STEPS of them: whether the list has its form, and if so their offsets and the numbers of
@@ -90,36 +86,13 @@ fn walk_on(steps: &[u32], j: usize, start: Reached, k: usize) -> Reached
     at
 }
 
-// Notes every MARK_STEPS steps of a list that has its form.
-fn note_marks(steps: &[u32], offsets: &mut [u32], faces: &mut [u32])
-    requires { ⌜ (wellFormed (now steps) ≡ true) × (length (now offsets) ≡ marks) × (length (now faces) ≡ marks) ⌝ }
-    ensures { λ _. ⌜ Marked (now (steps .entry)) true (now (offsets .exit)) (now (faces .exit)) ⌝ }
-{
-    let count = number(steps, 2);
-    let mut at = first_step(steps);
-    let mut j: usize = 0;
-    while j < MARKS {
-        put(offsets, j, at.offset as u32);
-        put(faces, j, at.faces as u32);
-        let next = MARK_STEPS * (j + 1);
-        if count < next {
-            return;
-        }
-        at = walk_on(steps, MARK_STEPS * j, at, next);
-        j += 1;
-    }
-}
-
-// Judges the form of a list, and notes its marks if it has it.
+// Judges the form of a list, and notes all its marks.
 pub(crate) fn mark_steps(steps: &[u32]) -> Marks
     ensures { λ r. ⌜ MarkedBy (now (steps .entry)) r ⌝ }
 {
     let mut offsets = [0u32; MARKS];
     let mut faces = [0u32; MARKS];
-    let formed = well_formed(steps);
-    if formed {
-        note_marks(steps, &mut offsets, &mut faces);
-    }
+    let formed = well_formed(steps, &mut offsets, &mut faces);
     Marks {
         formed,
         offsets,
@@ -201,14 +174,8 @@ pub(crate) fn locate(
 pub(crate) fn locate_once(steps: &[u32], faces: usize, positions: usize) -> Located
     ensures { λ r. ⌜ locatedGiven r ≡ placeOf (now (steps .entry)) faces positions ⌝ }
 {
-    let offsets = [HEAD_WORDS as u32];
-    let faces_at = [word(steps, 1)];
-    locate(
-        steps,
-        well_formed(steps),
-        &offsets,
-        &faces_at,
-        faces,
-        positions,
-    )
+    let mut offsets = [0u32; 1];
+    let mut faces_at = [0u32; 1];
+    let formed = well_formed(steps, &mut offsets, &mut faces_at);
+    locate(steps, formed, &offsets, &faces_at, faces, positions)
 }

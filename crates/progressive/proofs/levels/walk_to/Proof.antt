@@ -41,7 +41,7 @@ walk-on-requires c κs =
       form-of marked,
       in-list .1,
       omega (arith, at-start .pre .1),
-      mark-at marked (in-list .0) (omega (arith, in-list .1, at-start .pre .1))
+      mark-at marked (in-list .0) (omega (arith, in-list .1, at-start .pre .1, c .before .before .before .if1 .left))
           (c .before .number .ensures .0) (c .number2 .ensures .0),
     )
 
