@@ -12,7 +12,7 @@ use Rattle.fields.specs.Numbers.{badSteps, countsDisagree}
 use Rattle.fields.specs.Judged.{done, refused}
 use Rattle.fields.proofs.Judging.{passed, same-done, value-before}
 use Rattle.progressive.specs.declared.levels.Place.{Place}
-use Rattle.progressive.specs.declared.levels.Reached.{Reached}
+use Rattle.progressive.specs.declared.levels.StepSpot.{StepSpot}
 use Rattle.progressive.specs.declared.levels.Walked.{Walked}
 use Rattle.progressive.specs.StepTable.{baseFaces, basePositions, facesBefore, headWords, newFaceCount, nextStep, stepCount, stepFormed, stepOffset, wellFormed}
 use Rattle.progressive.specs.Steps.{countsAgree, levelOf}
@@ -26,17 +26,17 @@ pub step-first : (t : List ℕ) {f : ℕ} → f ≡ baseFaces t → AtStep t 0 (
 unfolding stepOffset facesBefore
 step-first t e = record { offset = refl; faces = e }
 
-pub step-next : (t : List ℕ) (k : ℕ) {at : Reached} {after new : ℕ} → AtStep t k at
+pub step-next : (t : List ℕ) (k : ℕ) {at : StepSpot} {after new : ℕ} → AtStep t k at
     → after ≡ nextStep t (at .offset) → new ≡ newFaceCount t (at .offset) → AtStep t (k + 1) (record { offset = after; faces = at .faces + new })
 unfolding stepOffset facesBefore
 step-next t k {at} s e n = rw add-one (record { offset = e ∙ ap (nextStep t) (s .offset); faces = rw (n, s .offset, s .faces) })
 
 -- what a formed table tells of a step of it
-pub record Within (t : List ℕ) (at : Reached) : Type 0 where
+pub record Within (t : List ℕ) (at : StepSpot) : Type 0 where
   pub offset : at .offset ≤ length t
   pub few : at .faces ≤ largestCount + mostNewFaces * mostSteps
 
-pub within : (t : List ℕ) (k : ℕ) {at : Reached} → wellFormed t ≡ true → k ≤ stepCount t → AtStep t k at → Within t at
+pub within : (t : List ℕ) (k : ℕ) {at : StepSpot} → wellFormed t ≡ true → k ≤ stepCount t → AtStep t k at → Within t at
 within t k e h s =
     let table : FormedTable t = formed-table t e in
     record {
@@ -47,14 +47,14 @@ within t k e h s =
 -- ---- the level of the present counts
 
 -- the step before level k, and level k after it
-pub arrived : (t : List ℕ) (k : ℕ) {last next : Reached} → (k ≡ 0 → ⊥) → AtStep t (k - 1) last → AtStep t (k - 1 + 1) next
+pub arrived : (t : List ℕ) (k : ℕ) {last next : StepSpot} → (k ≡ 0 → ⊥) → AtStep t (k - 1) last → AtStep t (k - 1 + 1) next
     → Arrived t k (record { next = next .offset; last = last .offset; faces = next .faces })
 arrived t k h l n =
     let q : k - 1 + 1 ≡ k = omega arith in
     record { next-at = rw q at (n .offset); last-at = l .offset; count = rw q at (n .faces) }
 
 -- no step is before level 0
-pub arrived-base : (t : List ℕ) (k : ℕ) {at : Reached} → k ≡ 0 → AtStep t 0 at
+pub arrived-base : (t : List ℕ) (k : ℕ) {at : StepSpot} → k ≡ 0 → AtStep t 0 at
     → Arrived t k (record { next = at .offset; last = at .offset; faces = at .faces })
 arrived-base t k e s = rw e (record { next-at = s .offset; last-at = s .offset; count = s .faces })
 

@@ -13,7 +13,7 @@ use Rattle.progressive.specs.declared.counts.Counts.{Counts}
 use Rattle.progressive.specs.declared.counts.Stepped as stepped
 use Rattle.progressive.specs.declared.levels.Marks.{Marks}
 use Rattle.progressive.specs.declared.levels.Place.{Place}
-use Rattle.progressive.specs.declared.levels.Reached.{Reached}
+use Rattle.progressive.specs.declared.levels.StepSpot.{StepSpot}
 use Rattle.progressive.specs.declared.levels.Walked.{Walked}
 use Rattle.progressive.specs.declared.levels.Located as located
 use Rattle.progressive.specs.declared.refine.Verdict as verdict
@@ -52,7 +52,7 @@ abbrev pub MarkedBy : List ℕ → Marks → Type 0
 MarkedBy t m = Marked t (m .formed) (m .offsets) (m .faces)
 
 -- step k
-pub record AtStep (t : List ℕ) (k : ℕ) (r : Reached) : Type 0 where
+pub record AtStep (t : List ℕ) (k : ℕ) (r : StepSpot) : Type 0 where
   pub offset : r .offset ≡ stepOffset t k
   pub faces : r .faces ≡ facesBefore t k
 

@@ -26,7 +26,7 @@ pub struct Marks {
 }
 
 // A step's offset, and the number of faces before it.
-pub struct Reached {
+pub struct StepSpot {
     pub offset: usize,
     pub faces: usize,
 }
@@ -52,28 +52,28 @@ pub enum Located {
 }
 
 // The first step.
-fn first_step(steps: &[u32]) -> Reached
+fn first_step(steps: &[u32]) -> StepSpot
     ensures { λ r. ⌜ AtStep (now (steps .entry)) 0 r ⌝ }
 {
-    Reached {
+    StepSpot {
         offset: HEAD_WORDS,
         faces: number(steps, 1),
     }
 }
 
 // From step k on to the next.
-fn pass_step(steps: &[u32], k: usize, at: Reached) -> Reached
+fn pass_step(steps: &[u32], k: usize, at: StepSpot) -> StepSpot
     requires { ⌜ (wellFormed (now steps) ≡ true) × (k < stepCount (now steps)) × AtStep (now steps) k at ⌝ }
     ensures { λ r. ⌜ AtStep (now (steps .entry)) (k + 1) r ⌝ }
 {
-    Reached {
+    StepSpot {
         offset: next_step(steps, at.offset),
         faces: at.faces + number(steps, at.offset + NEW_FACE_COUNT),
     }
 }
 
 // From step j on to step k.
-fn walk_on(steps: &[u32], j: usize, start: Reached, k: usize) -> Reached
+fn walk_on(steps: &[u32], j: usize, start: StepSpot, k: usize) -> StepSpot
     requires { ⌜ (wellFormed (now steps) ≡ true) × (j ≤ k) × (k ≤ stepCount (now steps)) × AtStep (now steps) j start ⌝ }
     ensures { λ r. ⌜ AtStep (now (steps .entry)) k r ⌝ }
 {
@@ -123,7 +123,7 @@ fn walk_to(steps: &[u32], offsets: &[u32], faces_at: &[u32], k: usize) -> Walked
         };
     }
     let mark = mark_before(offsets.len(), k - 1);
-    let noted = Reached {
+    let noted = StepSpot {
         offset: number(offsets, mark),
         faces: number(faces_at, mark),
     };
