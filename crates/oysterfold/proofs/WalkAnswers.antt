@@ -17,7 +17,7 @@ use Rattle.progressive.proofs.Walking.{walked-fresh, walked-stays}
 use Rattle.oysterfold.specs.CoderState.{shorter}
 use Rattle.oysterfold.specs.Result.{resultWords, wordsOf}
 use Rattle.oysterfold.specs.Steps.{countWords, countsIn}
-use Rattle.oysterfold.specs.Requests.{WalkHanded, countsTold, grantedTold, handedWalk, startIn, stepsInto, walkHanded}
+use Rattle.oysterfold.specs.Requests.{countsTold, grantedTold, handedWalk, startIn, stepsInto, walkHanded}
 
 abbrev refusedStart : Progress
 refusedStart = record { number = noRoom; granted = 0; positions = 0; faces = 0 }

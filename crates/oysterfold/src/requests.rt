@@ -9,7 +9,8 @@ use progressive::requests::step_all;
 ghost use mathlib.Core.Path.{_≡_};
 ghost use Rattle.oysterfold.specs.Requests.{countsTold, grantedTold, startIn, stepsInto, walkHanded};
 
-// The walk before its first wish, refused with 12 where the result or the counts are too short. Neither is changed.
+// The walk before its first wish, refused with 12 where the result or the counts are too short. Neither is changed: they are lent as
+// `&mut` since the proof by hand of `oysterfold_steps` lends a `&mut` slice again only as one.
 fn begin(counts: &mut [u32], result: &mut [u64]) -> Progress
     ensures { λ r. ⌜ (r ≡ startIn (now (counts .entry)) (now (result .entry)))
         × ((now (counts .exit) ≡ now (counts .entry)) × (now (result .exit) ≡ now (result .entry))) ⌝ }

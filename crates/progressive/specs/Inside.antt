@@ -3,12 +3,12 @@ use mathlib.Core.Bool.{Bool, true}
 use mathlib.Core.Path.{_≡_}
 use mathlib.Core.List.{List}
 use Prim.Native.Nat.{ℕ, _+_, _-_, _*_, _/_, _%_, _<_, _≤_}
+use lib.Dec.{eqb}
 use lib.ListN.{length, getD, set}
 use Rattle.fields.specs.All.{all}
 use Rattle.fields.specs.Limits.{largestCount}
 use Rattle.fields.specs.Judged.{Judged, done, refused, onDone, pick}
 use Rattle.mesh.specs.Corners.{faceWords, absent, cornerFields}
-use lib.Dec.{eqb}
 use Rattle.progressive.specs.declared.counts.Counts.{Counts}
 use Rattle.progressive.specs.declared.counts.Stepped as stepped
 use Rattle.progressive.specs.declared.levels.Marks.{Marks}

@@ -2,7 +2,6 @@
 use mathlib.Core.Path.{refl}
 use borrow.Author.Needs.{needs}
 use borrow.Author.Tests.{le-leb, lt-leb}
-use borrow.Author.Needs.{needs}
 use Rattle.fields.specs.Limits.{mostSteps}
 use Rattle.progressive.proofs.Indexed.{first-failed, first-passed}
 use Rattle.progressive.proofs.requests.request_formed.Statement.{statement}
