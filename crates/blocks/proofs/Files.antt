@@ -4,7 +4,7 @@ use mathlib.Core.Bool.{Bool, true, false}
 use mathlib.Core.List.{List, _++_}
 use Prim.Native.Nat.{ℕ, _+_, _*_, _<_, _≤_}
 use native.Mathlib.Omega.{arith}
-use borrow.Author.Tests.{ltb-false, lt-ltb, le-ltb}
+use borrow.Author.Tests.{eqb-true, ltb-false, lt-ltb, le-ltb}
 use lib.Dec.{eqb, ltb}
 use lib.ListN.{length, drop}
 use lib.Seq.{sets, sets-eq}
@@ -12,17 +12,18 @@ use Rattle.fields.specs.Numbers.{truncated, overLimit, badHeader, noRoom}
 use Rattle.fields.specs.Limits.{largestFile}
 use Rattle.fields.specs.Judged.{Judged, done, refused, bufferAfter}
 use Rattle.fields.specs.declared.numbers.Refusal.{Refusal}
-use Rattle.fields.proofs.Judging.{value-before, refusal-before, passed}
+use Rattle.fields.proofs.Judging.{value-before, refusal-before, passed, same-done}
 use Rattle.blocks.specs.Kind.{headerType}
-use Rattle.blocks.specs.Head.{headAt, extentOf, roomOf, paddingsOf}
-use Rattle.blocks.specs.Header.{headerData, headerEnd, versionOf, fieldsOf, restOf, judgedOf, firstOf}
+use Rattle.blocks.specs.Head.{headSize, dataSizeAt, headAt, extentOf, roomOf, paddingsOf}
+use Rattle.blocks.specs.Header.{leastData, dataSizeOf, versionOf, sizesOf, fieldsOf, restOf, sizedOf, judgedOf, firstOf}
 use Rattle.blocks.specs.Block.{levels}
 use Rattle.blocks.specs.Walk.{rowOf, walkOf, ends}
 use Rattle.blocks.specs.Told.{rowWidth, rowWords, allOf}
 use Rattle.blocks.specs.Inside.{bytesOf, toldWith, stored, answerOf, ToldFits, noneTold, toldOf}
 use Rattle.blocks.specs.File.{afterFirst, fileOf, fileWords, walkIn, fileLines, linesOf, linesIn}
-use Rattle.blocks.specs.declared.head.Head.{Head}
 use Rattle.blocks.specs.declared.header.First.{First}
+use Rattle.blocks.specs.declared.header.Sizes.{Sizes}
+use Rattle.blocks.specs.declared.header.Version.{Version}
 use Rattle.blocks.specs.declared.tell.Row.{Row}
 use Rattle.blocks.specs.declared.tell.Told.{Told}
 use Rattle.blocks.specs.declared.walk.Walked.{Walked}
@@ -31,34 +32,66 @@ use Rattle.blocks.proofs.Fits.{chosen, extent-fits, room-within}
 use Rattle.blocks.proofs.Stores.{row-told, words-length}
 use Rattle.blocks.proofs.Turns.{Answered, answer-refused}
 
+-- what the first block of a file was judged by
+pub record FirstJudged (s : List ℕ) (first : First) : Type 0 where
+  pub version : Version
+  pub sizes : Sizes
+  pub small : length s ≤ largestFile
+  pub head-read : headAt s 0 ≡ done (first .head)
+  pub type : first .head .«block_type» ≡ headerType
+  pub version-read : versionOf s ≡ done version
+  pub size : first .head .«data_size» ≡ dataSizeOf (version .profile)
+  pub sizes-read : sizesOf s ≡ done sizes
+  pub fields-read : fieldsOf s version sizes ≡ done (first .fields)
+  pub room : roomOf (length s) 0 (extentOf 0 (first .head)) ≡ done tt
+  pub zeros : paddingsOf s (extentOf 0 (first .head)) ≡ done tt
+  pub next : first .next ≡ extentOf 0 (first .head) .next
+
+pub first-judged : (s : List ℕ) (first : First) → firstOf s ≡ done first → FirstJudged s first
+unfolding firstOf judgedOf sizedOf restOf
+first-judged s first e =
+    let small = passed (ltb largestFile (length s)) overLimit 0 _ first e in
+    let head = value-before (headAt s 0) _ first (small .1) in
+    let type = chosen (eqb (head .0 .«block_type») headerType) _ badHeader 0 first (head .2) in
+    let least = passed (ltb (length s) (headSize + leastData)) truncated headSize _ first (type .1) in
+    let version = value-before (versionOf s) _ first (least .1) in
+    let size = chosen (eqb (head .0 .«data_size») (dataSizeOf (version .0 .profile))) _ badHeader dataSizeAt first (version .2) in
+    let whole = passed (ltb (length s) (headSize + head .0 .«data_size»)) truncated headSize _ first (size .1) in
+    let sizes = value-before (sizesOf s) _ first (whole .1) in
+    let fields = value-before (fieldsOf s (version .0) (sizes .0)) _ first (sizes .2) in
+    let room = value-before (roomOf (length s) 0 (extentOf 0 (head .0))) _ first (fields .2) in
+    let zeros = value-before (paddingsOf s (extentOf 0 (head .0))) _ first (room .2) in
+    rw (← same-done (zeros .2)) (record {
+      version = version .0;
+      sizes = sizes .0;
+      small = ltb-false largestFile (length s) (small .0);
+      head-read = head .1;
+      type = eqb-true _ headerType (type .0);
+      version-read = version .1;
+      size = eqb-true _ (dataSizeOf (version .0 .profile)) (size .0);
+      sizes-read = sizes .1;
+      fields-read = fields .1;
+      room = room .1;
+      zeros = zeros .1;
+      next = refl;
+    })
+
 -- the next block starts after the first one's numbers and within the bytes
 pub record FirstFits (s : List ℕ) (first : First) : Type 0 where
   pub starts : 12 ≤ first .next
   pub ends : first .next ≤ length s
   pub small : length s ≤ largestFile
 
-rest-next : (s : List ℕ) (head : Head) (first : First) (fields : _) → restOf s head fields ≡ done first → (12 ≤ first .next) × (first .next ≤ length s)
-unfolding restOf
-rest-next s head first fields e =
-    let room = value-before (roomOf (length s) 0 (extentOf 0 head)) _ first e in
-    let zeros = value-before (paddingsOf s (extentOf 0 head)) _ first (room .2) in
-    let next : extentOf 0 head .next ≡ first .next = cc in
-    let f = extent-fits 0 head (extentOf 0 head) refl in
-    let w = room-within (length s) 0 (extentOf 0 head) (room .0) (room .1) in
-    (omega (arith, f .starts, f .data-padding, f .meta-data, f .meta-padding), omega (arith, w .2))
-
 pub first-fits : (s : List ℕ) (first : First) → firstOf s ≡ done first → FirstFits s first
-unfolding firstOf judgedOf
 first-fits s first e =
-    let size = passed (ltb largestFile (length s)) overLimit 0 _ first e in
-    let head = value-before (headAt s 0) _ first (size .1) in
-    let type = chosen (eqb (head .0 .«block_type») headerType) _ badHeader 0 first (head .2) in
-    let bytes = chosen (eqb (head .0 .«data_size») headerData) _ badHeader 4 first (type .1) in
-    let room = passed (ltb (length s) headerEnd) truncated 12 _ first (bytes .1) in
-    let version = value-before (versionOf s) _ first (room .1) in
-    let fields = value-before (fieldsOf s (version .0)) _ first (version .2) in
-    let w = rest-next s (head .0) first (fields .0) (fields .2) in
-    record { starts = w .0; ends = w .1; small = ltb-false largestFile (length s) (size .0) }
+    let j = first-judged s first e in
+    let f = extent-fits 0 (first .head) (extentOf 0 (first .head)) refl in
+    let w = room-within (length s) 0 (extentOf 0 (first .head)) tt (j .room) in
+    record {
+      starts = omega (arith, f .starts, f .data-padding, f .meta-data, f .meta-padding, j .next);
+      ends = omega (arith, w .2, j .next);
+      small = j .small;
+    }
 
 -- the first block is told, and then the others
 pub after-first : (s : List ℕ) (first : First) (lines : Bool) (table text table₁ text₁ : List ℕ) (row : Row) (told₁ : Told)

@@ -16,12 +16,19 @@ use Rattle.blocks.specs.declared.head.Extent.{Extent}
 abbrev pub headSize : ℕ
 headSize = 12
 
+-- where the second and the third of them stand, from the block's start
+abbrev pub dataSizeAt : ℕ
+dataSizeAt = 4
+
+abbrev pub metaSizeAt : ℕ
+metaSizeAt = 8
+
 -- the three numbers at `at`
 unfoldable pub headAt : List ℕ → ℕ → Judged Head
 headAt s at =
     onDone (fieldAt 4 s at) λ blockType.
-    onDone (fieldAt 4 s (at + 4)) λ dataSize.
-    onDone (fieldAt 4 s (at + 8)) λ metaSize.
+    onDone (fieldAt 4 s (at + dataSizeAt)) λ dataSize.
+    onDone (fieldAt 4 s (at + metaSizeAt)) λ metaSize.
     done (record { «block_type» = blockType; «data_size» = dataSize; «meta_size» = metaSize })
 
 -- where the parts of the block at `at` end: data, its padding, meta data, its padding

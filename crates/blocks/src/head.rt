@@ -18,6 +18,11 @@ ghost use Rattle.blocks.specs.Head.{headAt, headGiven, extentOf, roomOf,
 // Bytes of a block's leading numbers.
 pub const HEAD_SIZE: usize = 12;
 
+// Where the second and the third of them stand, from the block's start.
+pub(crate) const DATA_SIZE_AT: usize = 4;
+
+const META_SIZE_AT: usize = 8;
+
 // A block's leading numbers: its type, data size and meta data size.
 pub struct Head {
     pub block_type: u32,
@@ -40,16 +45,16 @@ pub(crate) fn head_at(s: &[u8], at: usize) -> HeadAnswer
             place: at,
         });
     };
-    let U32Field::Value(data_size) = u32_at(s, at + 4) else {
+    let U32Field::Value(data_size) = u32_at(s, at + DATA_SIZE_AT) else {
         return HeadAnswer::Refused(Refusal {
             number: TRUNCATED,
-            place: at + 4,
+            place: at + DATA_SIZE_AT,
         });
     };
-    let U32Field::Value(meta_size) = u32_at(s, at + 8) else {
+    let U32Field::Value(meta_size) = u32_at(s, at + META_SIZE_AT) else {
         return HeadAnswer::Refused(Refusal {
             number: TRUNCATED,
-            place: at + 8,
+            place: at + META_SIZE_AT,
         });
     };
     HeadAnswer::Found(Head {

@@ -1,126 +1,70 @@
 -- A file that is walked to the end is laid out by the rules: the converse of FileWalked.
-use Prim.Native.Nat.{ℕ, _+_, _≤_}
+use Prim.Native.Nat.{ℕ, _+_, _<_}
 use mathlib.Core.Bool.{true, false}
 use mathlib.Core.List.{List, [], _∷_, _++_}
-use mathlib.Core.Path.{_≡_, ap, sym, _∙_}
+use mathlib.Core.Logic.{inl, inr}
+use mathlib.Core.Path.{_≡_, refl, ap, sym, _∙_}
 use native.Mathlib.Omega.{arith}
-use borrow.Author.Tests.{eqb-true, ltb-false}
-use lib.Dec.{eqb, ltb}
 use lib.ListN.{drop, length, length-append, take}
 use lib.Seq.{take-at}
-use Rattle.fields.specs.Numbers.{truncated, badHeader, badSize, badProfile, overLimit}
-use Rattle.fields.specs.Limits.{largestFile}
 use Rattle.fields.specs.Judged.{done}
 use Rattle.fields.specs.Field.{fieldAt}
-use Rattle.fields.proofs.Judging.{passed, same-done, value-before}
-use Rattle.fields.specs.Member.{member}
-use Rattle.blocks.specs.Kind.{headerType}
-use Rattle.blocks.specs.Head.{headAt, extentOf, roomOf, paddingsOf}
-use Rattle.blocks.specs.Header.{headerData, headerEnd, profiles, versionOf, fieldsOf, restOf, judgedOf, firstOf}
+use Rattle.blocks.specs.Head.{extentOf}
+use Rattle.blocks.specs.Header.{profiles, hasUnits, dataSizeOf, unitsOf, firstOf}
 use Rattle.blocks.specs.Block.{levels}
 use Rattle.blocks.specs.Walk.{tells, rowOf, walkOf}
 use Rattle.blocks.specs.File.{afterFirst, fileOf}
 use Rattle.blocks.specs.declared.head.Head.{Head}
 use Rattle.blocks.specs.declared.header.FileHeader.{FileHeader}
-use Rattle.blocks.specs.declared.header.First.{First}
-use Rattle.blocks.proofs.Fits.{chosen, room-within}
+use Rattle.blocks.proofs.Fits.{room-within}
+use Rattle.blocks.proofs.Files.{FirstJudged, first-judged}
 use Rattle.fields_theorems.specs.Encoding.{numberBytes}
 use Rattle.fields_theorems.proofs.FieldsBack.{length-numberBytes}
-use Rattle.blocks_theorems.specs.Layout.{Bytes, File, Lawful, blockBytes, blocksBytes, fileBytes, fileSize, headerBytes, withPadding, rowsOf}
+use Rattle.blocks_theorems.specs.Layout.{Bytes, File, Lawful, OneOf, Units, unitless, scaled, headerDataSize, profilesOf, unitsBytes, unitsPattern}
+use Rattle.blocks_theorems.specs.Layout.{blockBytes, blocksBytes, fileBytes, fileSize, headerBytes, rowsOf}
 use Rattle.blocks_theorems.proofs.PartsBack.{length-block, length-withPadding}
-use Rattle.blocks_theorems.proofs.FileWalked.{tree-walked}
+use Rattle.blocks_theorems.proofs.HeaderFound.{HeaderFound, data-sized, header-found}
+use Rattle.blocks_theorems.proofs.FileWalked.{length-units, tree-walked, whole-words}
 use Rattle.blocks_theorems.proofs.PartsLaid.{block-laid, both-laid, dataIn, field-laid, metaIn}
 use Rattle.blocks_theorems.proofs.BlocksLaid.{Laid, judged-done, listed, then-done, walk-laid}
 
--- ---- what the header of a file that was found was judged by
+-- ---- the units of a header that was found
 
-record Versioned (s : List ℕ) (minor profile : ℕ) : Type 0 where
-  major-read : fieldAt 2 s 12 ≡ done 0
-  minor-read : fieldAt 2 s 14 ≡ done minor
-  profile-read : fieldAt 4 s 16 ≡ done profile
-  profile-known : member profile profiles ≡ true
+record UnitsLaid (s : List ℕ) (profile pattern : ℕ) : Type 0 where
+  units : Units
+  size : dataSizeOf profile ≡ headerDataSize units
+  here : drop 36 s ≡ unitsBytes units ++ drop (12 + headerDataSize units) s
+  known : OneOf profile (profilesOf units)
+  small : unitsPattern units < 0x10000000000000000
 
-versioned : (s : List ℕ) (version : _) → versionOf s ≡ done version → Versioned s (version .minor) (version .profile)
-unfolding versionOf
-versioned s version e =
-    let major = value-before (fieldAt 2 s 12) _ version e in
-    let zero = chosen (eqb (major .0) 0) _ badHeader 12 version (major .2) in
-    let minor = value-before (fieldAt 2 s 14) _ version (zero .1) in
-    let profile = value-before (fieldAt 4 s 16) _ version (minor .2) in
-    let known = chosen (member (profile .0) profiles) _ badProfile 16 version (profile .2) in
-    rw (← same-done (known .1)) (record {
-      major-read = major .1 ∙ ap done (eqb-true (major .0) 0 (zero .0));
-      minor-read = minor .1;
-      profile-read = profile .1;
-      profile-known = known .0;
-    })
+module _ (s : List ℕ) (profile pattern : ℕ) (bytes : Bytes s) (read : unitsOf s profile ≡ done pattern) where
+  without : hasUnits profile ≡ false → OneOf profile (0 ∷ 2 ∷ []) → UnitsLaid s profile pattern
+  unfolding dataSizeOf unitsOf
+  without e known = record {
+    units = unitless;
+    size = rw e;
+    here = refl;
+    known = known;
+    small = omega arith;
+  }
 
-record Stated (s : List ℕ) (declared encoding : ℕ) : Type 0 where
-  declared-read : fieldAt 4 s 20 ≡ done declared
-  declared-small : declared ≤ length s
-  size-read : fieldAt 8 s 24 ≡ done (length s)
-  encoding-read : fieldAt 4 s 32 ≡ done encoding
+  with-units : hasUnits profile ≡ true → OneOf profile (8 ∷ 10 ∷ []) → UnitsLaid s profile pattern
+  unfolding dataSizeOf unitsOf
+  with-units e known =
+      let laid = field-laid 8 s 36 pattern bytes (rw e at read) in record {
+        units = scaled pattern;
+        size = rw e;
+        here = laid .0;
+        known = known;
+        small = omega (arith, laid .1);
+      }
 
-stated : (s : List ℕ) (version : _) (fields : FileHeader) → fieldsOf s version ≡ done fields → Stated s (fields .«declaration_size») (fields .encoding)
-unfolding fieldsOf
-stated s version fields e =
-    let declared = value-before (fieldAt 4 s 20) _ fields e in
-    let within = passed (ltb (length s) (declared .0)) badSize 20 _ fields (declared .2) in
-    let size = value-before (fieldAt 8 s 24) _ fields (within .1) in
-    let same = chosen (eqb (size .0) (length s)) _ badSize 24 fields (size .2) in
-    let encoding = value-before (fieldAt 4 s 32) _ fields (same .1) in
-    rw (← same-done (encoding .2)) (record {
-      declared-read = declared .1;
-      declared-small = ltb-false (length s) (declared .0) (within .0);
-      size-read = size .1 ∙ ap done (eqb-true (size .0) (length s) (same .0));
-      encoding-read = encoding .1;
-    })
-
-record Headed (s : List ℕ) (first : First) : Type 0 where
-  head : Head
-  minor : ℕ
-  profile : ℕ
-  declared : ℕ
-  encoding : ℕ
-  version : Versioned s minor profile
-  fields : Stated s declared encoding
-  head-read : headAt s 0 ≡ done head
-  type : head .«block_type» ≡ headerType
-  size : head .«data_size» ≡ headerData
-  small : length s ≤ largestFile
-  room : extentOf 0 head .next ≤ length s
-  withPadding : paddingsOf s (extentOf 0 head) ≡ done tt
-  next : extentOf 0 head .next ≡ first .next
-
-headed : (s : List ℕ) (first : First) → firstOf s ≡ done first → Headed s first
-unfolding firstOf judgedOf restOf
-headed s first e =
-    let small = passed (ltb largestFile (length s)) overLimit 0 _ first e in
-    let head = value-before (headAt s 0) _ first (small .1) in
-    let type = chosen (eqb (head .0 .«block_type») headerType) _ badHeader 0 first (head .2) in
-    let size = chosen (eqb (head .0 .«data_size») headerData) _ badHeader 4 first (type .1) in
-    let whole = passed (ltb (length s) headerEnd) truncated 12 _ first (size .1) in
-    let version = value-before (versionOf s) _ first (whole .1) in
-    let fields = value-before (fieldsOf s (version .0)) _ first (version .2) in
-    let extent = extentOf 0 (head .0) in
-    let room = value-before (roomOf (length s) 0 extent) _ first (fields .2) in
-    let zeros = value-before (paddingsOf s extent) _ first (room .2) in
-    record {
-      head = head .0;
-      minor = version .0 .minor;
-      profile = version .0 .profile;
-      declared = fields .0 .«declaration_size»;
-      encoding = fields .0 .encoding;
-      version = versioned s (version .0) (version .1);
-      fields = stated s (version .0) (fields .0) (fields .1);
-      head-read = head .1;
-      type = eqb-true _ headerType (type .0);
-      size = eqb-true _ headerData (size .0);
-      small = ltb-false largestFile (length s) (small .0);
-      room = room-within (length s) 0 extent (room .0) (room .1) .2;
-      withPadding = zeros .1;
-      next = ap (λ (f : First). f .next) (same-done (zeros .2));
-    }
+  units-laid : OneOf profile profiles → UnitsLaid s profile pattern
+  unfolding hasUnits
+  units-laid (inl e) = without (rw e) (inl e)
+  units-laid (inr (inl e)) = without (rw e) (inr (inl e))
+  units-laid (inr (inr (inl e))) = with-units (rw e) (inl e)
+  units-laid (inr (inr (inr (inl e)))) = with-units (rw e) (inr (inl e))
 
 -- ---- the file that was walked
 
@@ -128,86 +72,100 @@ headed s first e =
 field-then : (k : ℕ) (s q more : List ℕ) (at v : ℕ) → Bytes s → fieldAt k s at ≡ done v → drop (at + k) s ≡ q ++ more → drop at s ≡ (numberBytes k v ++ q) ++ more
 field-then k s q more at v bytes e f = both-laid (drop at s) (numberBytes k v) q (drop (at + k) s) more (field-laid k s at v bytes e .0) f
 
-module _ (s : List ℕ) (first : First) (bytes : Bytes s) (h : Headed s first) (l : Laid levels (length s) s (first .next) false) where
+module _ (s : List ℕ) (bytes : Bytes s) (fields : FileHeader) (h : HeaderFound s fields) (u : UnitsLaid s (fields .profile) (fields .units)) (head : Head)
+    (next : ℕ) (l : Laid levels (length s) s next false) where
   -- the file whose bytes these are
   abbrev fileIn : File
   fileIn = record {
-    minor = h .minor;
-    profile = h .profile;
-    declaration-size = h .declared;
-    encoding = h .encoding;
-    meta = metaIn s 0 (h .head);
+    minor = fields .«minor_version»;
+    profile = fields .profile;
+    declaration-size = fields .«declaration_size»;
+    encoding = fields .encoding;
+    units = u .units;
+    meta = metaIn s 0 head;
     declarations = l .declared;
     continuations = l .continuing;
   }
 
   -- its header's data, from the back
+  abbrev encoding-on : List ℕ
+  encoding-on = numberBytes 4 (fields .encoding) ++ unitsBytes (u .units)
+
   abbrev size-on : List ℕ
-  size-on = numberBytes 8 (length s) ++ numberBytes 4 (h .encoding)
+  size-on = numberBytes 8 (fields .«file_size») ++ encoding-on
 
   abbrev declared-on : List ℕ
-  declared-on = numberBytes 4 (h .declared) ++ size-on
+  declared-on = numberBytes 4 (fields .«declaration_size») ++ size-on
 
   abbrev profile-on : List ℕ
-  profile-on = numberBytes 4 (h .profile) ++ declared-on
+  profile-on = numberBytes 4 (fields .profile) ++ declared-on
 
   abbrev minor-on : List ℕ
-  minor-on = numberBytes 2 (h .minor) ++ profile-on
+  minor-on = numberBytes 2 (fields .«minor_version») ++ profile-on
 
   abbrev header : List ℕ
   header = numberBytes 2 0 ++ minor-on
 
-  header-here : drop 12 s ≡ header ++ drop 36 s
+  abbrev after : List ℕ
+  after = drop (12 + headerDataSize (u .units)) s
+
+  header-here : drop 12 s ≡ header ++ after
   header-here =
-      let after = drop 36 s in
-      let five = field-then 8 s (numberBytes 4 (h .encoding)) after 24 (length s) bytes (h .fields .size-read) (field-laid 4 s 32 (h .encoding) bytes (h .fields .encoding-read) .0) in
-      let four = field-then 4 s size-on after 20 (h .declared) bytes (h .fields .declared-read) five in
-      let three = field-then 4 s declared-on after 16 (h .profile) bytes (h .version .profile-read) four in
-      let two = field-then 2 s profile-on after 14 (h .minor) bytes (h .version .minor-read) three in
-      field-then 2 s minor-on after 12 0 bytes (h .version .major-read) two
+      let five = field-then 4 s (unitsBytes (u .units)) after 32 (fields .encoding) bytes (h .encoding) (u .here) in
+      let four = field-then 8 s encoding-on after 24 (fields .«file_size») bytes (h .file-size) five in
+      let three = field-then 4 s size-on after 20 (fields .«declaration_size») bytes (h .declaration-size) four in
+      let two = field-then 4 s declared-on after 16 (fields .profile) bytes (h .profile) three in
+      let one = field-then 2 s profile-on after 14 (fields .«minor_version») bytes (h .minor) two in
+      field-then 2 s minor-on after 12 0 bytes (h .major) one
 
-  header-length : length header ≡ 24
-  header-length = simp (length-append, length-numberBytes)
+  header-length : length header ≡ headerDataSize (u .units)
+  header-length = simp (length-append, length-numberBytes) (omega (arith, length-units (u .units)))
 
-  data-here : dataIn s 0 (h .head) ≡ header
-  data-here = rw (h .size) (ap (λ (x : List ℕ). take 24 x) header-here ∙ take-at header (drop 36 s) 24 header-length)
+  module _ (j : FirstJudged s (record { fields = fields; head = head; next = next })) (size : head .«data_size» ≡ dataSizeOf (fields .profile)) where
+    data-here : dataIn s 0 head ≡ header
+    data-here =
+        rw (size, u .size)
+        (ap (λ (x : List ℕ). take (headerDataSize (u .units)) x) header-here ∙ take-at header after (headerDataSize (u .units)) header-length)
 
-  abbrev top : List ℕ
-  top = blocksBytes (l .declared) ++ blocksBytes (l .continuing)
+    abbrev top : List ℕ
+    top = blocksBytes (l .declared) ++ blocksBytes (l .continuing)
 
-  whole : s ≡ blockBytes 0x00443355 header (metaIn s 0 (h .head)) ++ top
-  whole =
-      let laid = block-laid s 0 (h .head) tt bytes (h .head-read) (h .room) (h .withPadding) in
-      laid .here ∙ rw (h .next, l .here, data-here, h .type)
+    whole : s ≡ blockBytes 0x00443355 header (metaIn s 0 head) ++ top
+    whole =
+        let room = room-within (length s) 0 (extentOf 0 head) tt (j .room) .2 in
+        let laid = block-laid s 0 head tt bytes (j .head-read) room (j .zeros) in
+        laid .here ∙ rw (← j .next, l .here, data-here, j .type)
 
-  sized : fileSize fileIn ≡ length s
-  sized =
-      let meta = metaIn s 0 (h .head) in
-      let m : length (blockBytes 0x00443355 header meta ++ top) ≡ length s = sym (ap length whole) in
-      omega (
-        arith,
-        m,
-        length-append (blockBytes 0x00443355 header meta) top,
-        length-append (blocksBytes (l .declared)) (blocksBytes (l .continuing)),
-        length-block 0x00443355 header meta,
-        header-length,
-        length-withPadding meta,
-      )
+    sized : fileSize fileIn ≡ length s
+    sized =
+        let meta = metaIn s 0 head in
+        let m : length (blockBytes 0x00443355 header meta ++ top) ≡ length s = sym (ap length whole) in
+        omega (
+          arith,
+          m,
+          length-append (blockBytes 0x00443355 header meta) top,
+          length-append (blocksBytes (l .declared)) (blocksBytes (l .continuing)),
+          length-block 0x00443355 header meta,
+          header-length,
+          whole-words (u .units),
+          length-withPadding meta,
+        )
 
-  laid-out : s ≡ fileBytes fileIn
-  unfolding fileBytes headerBytes
-  laid-out = whole ∙ rw sized
+    laid-out : s ≡ fileBytes fileIn
+    unfolding fileBytes headerBytes
+    laid-out = whole ∙ rw (h .file-sized, sized)
 
-  lawful : Lawful fileIn
-  lawful = record {
-    minor = field-laid 2 s 14 (h .minor) bytes (h .version .minor-read) .1;
-    profile = listed (λ x. x) (h .profile) profiles (h .version .profile-known);
-    declaration-size = omega (arith, sized, h .fields .declared-small);
-    encoding = omega (arith, field-laid 4 s 32 (h .encoding) bytes (h .fields .encoding-read) .1);
-    declarations = l .declarations;
-    continuations = l .continuations;
-    small = omega (arith, sized, h .small);
-  }
+    lawful : Lawful fileIn
+    lawful = record {
+      minor = field-laid 2 s 14 (fields .«minor_version») bytes (h .minor) .1;
+      profile = u .known;
+      declaration-size = omega (arith, sized, h .declaration-small);
+      encoding = omega (arith, field-laid 4 s 32 (fields .encoding) bytes (h .encoding) .1);
+      units = u .small;
+      declarations = l .declarations;
+      continuations = l .continuations;
+      small = omega (arith, sized, j .small);
+    }
 
 -- A file of bytes that is walked to the end is laid out by the rules, and its rows are those of its blocks: nothing else is walked to the end.
 pub only-trees-walked : (s : List ℕ) (u : Unit {0}) → Bytes s → fileOf s .ending ≡ done u → (f : File) × Lawful f × (s ≡ fileBytes f) × (fileOf s ≡ tells (rowsOf f))
@@ -217,8 +175,12 @@ only-trees-walked s u bytes e =
     let first = found .0 in
     let walked = then-done (tells (rowOf 0 (first .head) 0 ∷ [])) (walkOf levels (length s) s (first .next) false) u (found .2) in
     let laid = walk-laid levels (length s) s (first .next) false u (omega arith) bytes (walked .1) in
-    let h = headed s first (found .1) in
-    let f = fileIn s first bytes h laid in
-    let good = lawful s first bytes h laid in
-    let same = laid-out s first bytes h laid in
+    let fields = first .fields in
+    let h = header-found s first (found .1) in
+    let units = units-laid s (fields .profile) (fields .units) bytes (h .units) (listed (λ x. x) (fields .profile) profiles (h .known)) in
+    let j = first-judged s first (found .1) in
+    let size = data-sized s first (found .1) in
+    let f = fileIn s bytes fields h units (first .head) (first .next) laid in
+    let good = lawful s bytes fields h units (first .head) (first .next) laid j size in
+    let same = laid-out s bytes fields h units (first .head) (first .next) laid j size in
     (f, good, same, ap fileOf same ∙ tree-walked f good)

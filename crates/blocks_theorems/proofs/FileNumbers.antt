@@ -1,5 +1,5 @@
 -- The refusals of the first block, of a walk, and of a whole file.
-use Prim.Native.Nat.{ℕ, zero, suc, _-_, _≤_}
+use Prim.Native.Nat.{ℕ, zero, suc, _+_, _-_, _≤_}
 use mathlib.Core.Bool.{Bool, true, false}
 use mathlib.Core.List.{List, [], _∷_}
 use mathlib.Core.Path.{refl}
@@ -10,12 +10,12 @@ use lib.ListN.{length, take}
 use lib.Seq.{length-take-le}
 use Rattle.fields.specs.Numbers.{truncated, badHeader, badSize, badProfile, badChain, overLimit, noRoom}
 use Rattle.fields.specs.Limits.{largestFile}
-use Rattle.fields.specs.Judged.{refused, pick}
+use Rattle.fields.specs.Judged.{done, refused, pick}
 use Rattle.fields.specs.Field.{fieldAt}
 use Rattle.fields.specs.Member.{member}
 use Rattle.blocks.specs.Kind.{headerType, isChain, isContinuation}
-use Rattle.blocks.specs.Head.{headAt, extentOf, roomOf, paddingsOf}
-use Rattle.blocks.specs.Header.{headerData, headerEnd, profiles, versionOf, fieldsOf, restOf, judgedOf, firstOf}
+use Rattle.blocks.specs.Head.{headSize, dataSizeAt, headAt, extentOf, roomOf, paddingsOf}
+use Rattle.blocks.specs.Header.{leastData, profiles, hasUnits, dataSizeOf, versionOf, sizesOf, unitsOf, fieldsOf, restOf, sizedOf, judgedOf, firstOf}
 use Rattle.blocks.specs.Chain.{inChain}
 use Rattle.blocks.specs.Block.{levels, blockAt}
 use Rattle.blocks.specs.Walk.{Outcome, tells, ends, onJudged, rowOf, fileEnds, blocksOf, insideOf, walkOf, inChainOutcome}
@@ -32,8 +32,12 @@ use Rattle.blocks_theorems.proofs.BlockNumbers.{field-refusing, head-re
 
 -- ---- the first block
 
+-- room for the fields that every header has
+abbrev Least : List ℕ → Type 0
+Least s = headSize + leastData ≤ length s
+
 module _ (s : List ℕ) where
-  version-refusing : headerEnd ≤ length s → Refusing firstNumbers (length s) (versionOf s)
+  version-refusing : Least s → Refusing firstNumbers (length s) (versionOf s)
   unfolding versionOf Refusing
   version-refusing h =
       let len = length s in
@@ -44,18 +48,29 @@ module _ (s : List ℕ) where
       picked firstNumbers len (member profile profiles) _ (refused badProfile 16) (λ _. tt) (λ _. (refl, omega arith)))
       (λ _. (refl, omega arith))
 
-  fields-refusing : (version : _) → headerEnd ≤ length s → Refusing firstNumbers (length s) (fieldsOf s version)
-  unfolding fieldsOf Refusing
-  fields-refusing version h =
+  sizes-refusing : Least s → Refusing firstNumbers (length s) (sizesOf s)
+  unfolding sizesOf Refusing
+  sizes-refusing h =
       let len = length s in
       on-done firstNumbers len (fieldAt 4 s 20) _ (field-refusing firstNumbers len 4 s 20 refl (omega arith)) λ declared _.
       refused-if firstNumbers len (ltb len declared) badSize 20 _ refl (omega arith) λ _.
       on-done firstNumbers len (fieldAt 8 s 24) _ (field-refusing firstNumbers len 8 s 24 refl (omega arith)) λ size _.
-      picked firstNumbers len (eqb size len) _ (refused badSize 24)
-      (λ _. on-done firstNumbers len (fieldAt 4 s 32) _ (field-refusing firstNumbers len 4 s 32 refl (omega arith)) λ _ _. tt)
-      (λ _. (refl, omega arith))
+      picked firstNumbers len (eqb size len) _ (refused badSize 24) (λ _. tt) (λ _. (refl, omega arith))
 
-  rest-refusing : (head : Head) (fields : FileHeader) → headerEnd ≤ length s → Refusing firstNumbers (length s) (restOf s head fields)
+  units-refusing : (profile : ℕ) → Least s → Refusing firstNumbers (length s) (unitsOf s profile)
+  unfolding unitsOf Refusing
+  units-refusing profile h =
+      let len = length s in
+      picked firstNumbers len (hasUnits profile) (fieldAt 8 s 36) (done 0) (λ _. field-refusing firstNumbers len 8 s 36 refl (omega arith)) (λ _. tt)
+
+  fields-refusing : (version : _) (sizes : _) → Least s → Refusing firstNumbers (length s) (fieldsOf s version sizes)
+  unfolding fieldsOf Refusing
+  fields-refusing version sizes h =
+      let len = length s in
+      on-done firstNumbers len (fieldAt 4 s 32) _ (field-refusing firstNumbers len 4 s 32 refl (omega arith)) λ encoding _.
+      on-done firstNumbers len (unitsOf s (version .profile)) _ (units-refusing (version .profile) h) λ _ _. tt
+
+  rest-refusing : (head : Head) (fields : FileHeader) → Least s → Refusing firstNumbers (length s) (restOf s head fields)
   unfolding restOf Refusing
   rest-refusing head fields h =
       let extent = extentOf 0 head in
@@ -65,18 +80,26 @@ module _ (s : List ℕ) where
       on-done firstNumbers (length s) (paddingsOf s extent) _
       (paddings-refusing firstNumbers s extent refl (f .data-padding) (w .1) (f .meta-padding) (w .2)) λ _ _. tt
 
+  sized-refusing : (head : Head) (version : _) → Least s → Refusing firstNumbers (length s) (sizedOf s head version)
+  unfolding sizedOf Refusing
+  sized-refusing head version h =
+      let len = length s in
+      picked firstNumbers len (eqb (head .«data_size») (dataSizeOf (version .profile))) _ (refused badHeader dataSizeAt)
+      (λ _. refused-if firstNumbers len (ltb len (headSize + head .«data_size»)) truncated headSize _ refl (omega arith) λ _.
+      on-done firstNumbers len (sizesOf s) _ (sizes-refusing h) λ sizes _.
+      on-done firstNumbers len (fieldsOf s version sizes) _ (fields-refusing version sizes h) λ fields _.
+      rest-refusing head fields h)
+      (λ _. (refl, omega arith))
+
   judged-refusing : (head : Head) → 12 ≤ length s → Refusing firstNumbers (length s) (judgedOf s head)
   unfolding judgedOf Refusing
   judged-refusing head h =
       let len = length s in
       picked firstNumbers len (eqb (head .«block_type») headerType) _ (refused badHeader 0)
-      (λ _. picked firstNumbers len (eqb (head .«data_size») headerData) _ (refused badHeader 4)
-      (λ _. refused-if firstNumbers len (ltb len headerEnd) truncated 12 _ refl h λ a.
-      let room = ltb-false len headerEnd a in
-      on-done firstNumbers len (versionOf s) _ (version-refusing room) λ version _.
-      on-done firstNumbers len (fieldsOf s version) _ (fields-refusing version room) λ fields _.
-      rest-refusing head fields room)
-      (λ _. (refl, omega arith)))
+      (λ _. refused-if firstNumbers len (ltb len (headSize + leastData)) truncated headSize _ refl h λ a.
+      let least = ltb-false len (headSize + leastData) a in
+      on-done firstNumbers len (versionOf s) _ (version-refusing least) λ version _.
+      sized-refusing head version least)
       (λ _. (refl, omega arith))
 
   -- The first block is refused with 1 to 5 or 9, and within the file.

@@ -1,7 +1,7 @@
--- A file that is laid out by the rules is walked to its rows.
-use Prim.Native.Nat.{ℕ, _+_, _-_, _≤_, _<_}
+-- A file that is laid out by the rules is walked to its rows, and its header handed out.
+use Prim.Native.Nat.{ℕ, _+_, _-_, _%_, _≤_, _<_}
 use mathlib.Core.Bool.{true, false}
-use mathlib.Core.List.{List, [], _∷_, _++_, append-assoc}
+use mathlib.Core.List.{List, _++_, append-assoc}
 use mathlib.Core.Logic.{inl, inr}
 use mathlib.Core.Path.{_≡_, refl, ap, sym, _∙_}
 use native.Mathlib.Nat.{zero-add}
@@ -12,39 +12,66 @@ use Rattle.fields.specs.Judged.{done}
 use Rattle.fields.specs.Limits.{largestFile}
 use Rattle.fields.specs.Member.{member}
 use Rattle.blocks.specs.Head.{extentOf}
-use Rattle.blocks.specs.Header.{profiles, versionOf, fieldsOf, restOf, judgedOf, firstOf}
+use Rattle.blocks.specs.Header.{profiles, hasUnits, dataSizeOf, versionOf, sizesOf, unitsOf, fieldsOf, restOf, sizedOf, judgedOf, firstOf}
 use Rattle.blocks.specs.Block.{levels}
 use Rattle.blocks.specs.Walk.{Outcome, tells, andThen, walkOf}
 use Rattle.blocks.specs.File.{afterFirst, fileOf}
 use Rattle.blocks.specs.declared.head.Head.{Head}
-use Rattle.blocks.specs.declared.header.FileHeader.{FileHeader}
-use Rattle.blocks.specs.declared.header.First.{First}
 use Rattle.fields_theorems.specs.Encoding.{numberBytes}
 use Rattle.fields_theorems.proofs.Seams.{past}
 use Rattle.fields_theorems.proofs.FieldsBack.{field-back, length-numberBytes}
 use Rattle.blocks_theorems.specs.RowParts.{padding}
+use Rattle.blocks_theorems.specs.Layout.{Units, unitless, scaled, headerDataSize, profilesOf, unitsBytes, unitsPattern}
+use Rattle.blocks_theorems.specs.Handed.{headerHanded}
 use Rattle.blocks_theorems.specs.Layout.{File, Lawful, OneOf, blockBytes, blocksBytes, countOf, fileBytes, fileSize, headerBytes, headerSize, withPadding, rowsLaid, rowsOf}
 use Rattle.blocks_theorems.proofs.PartsBack.{data-here, head-back, headOf, length-block, length-withPadding, next-at, paddings-back, room-back}
 use Rattle.blocks_theorems.proofs.BlocksWalked.{continuations-walked, declarations-walked, few-blocks, told}
 
--- a profile without a bit other than 0x2 and 0x8
-profile-known : (x : ℕ) → OneOf x (0 ∷ 2 ∷ 8 ∷ 10 ∷ []) → (member x profiles ≡ true) × (x < 0x100000000)
-profile-known x (inl e) = (rw e, omega arith)
-profile-known x (inr (inl e)) = (rw e, omega arith)
-profile-known x (inr (inr (inl e))) = (rw e, omega arith)
-profile-known x (inr (inr (inr (inl e)))) = (rw e, omega arith)
+-- what a profile without a bit other than 0x2 and 0x8 says of units
+record Profiled (x : ℕ) (units : Units) : Type 0 where
+  known : member x profiles ≡ true
+  small : x < 0x100000000
+  size : dataSizeOf x ≡ headerDataSize units
+  units-back : (s rest : List ℕ) → unitsPattern units < 0x10000000000000000 → drop 36 s ≡ unitsBytes units ++ rest
+      → unitsOf s x ≡ done (unitsPattern units)
+
+profiled : (x : ℕ) (units : Units) → OneOf x (profilesOf units) → Profiled x units
+unfolding hasUnits dataSizeOf unitsOf
+profiled x unitless (inl e) = rw e (record { known = refl; small = omega arith; size = refl; units-back = λ s rest h here. refl })
+profiled x unitless (inr (inl e)) = rw e (record { known = refl; small = omega arith; size = refl; units-back = λ s rest h here. refl })
+profiled x (scaled factor) (inl e) = rw e (record {
+  known = refl;
+  small = omega arith;
+  size = refl;
+  units-back = λ s rest h here. field-back 8 s rest 36 factor (omega arith) (omega arith) here;
+})
+profiled x (scaled factor) (inr (inl e)) = rw e (record {
+  known = refl;
+  small = omega arith;
+  size = refl;
+  units-back = λ s rest h here. field-back 8 s rest 36 factor (omega arith) (omega arith) here;
+})
+
+pub length-units : (units : Units) → 24 + length (unitsBytes units) ≡ headerDataSize units
+length-units unitless = refl
+length-units (scaled factor) = rw (length-numberBytes 8 factor)
+
+-- so that no padding follows it
+pub whole-words : (units : Units) → headerDataSize units % 4 ≡ 0
+whole-words unitless = refl
+whole-words (scaled factor) = refl
 
 module _ (f : File) where
   -- what follows the header
   abbrev pub top : List ℕ
   top = blocksBytes (f .declarations) ++ blocksBytes (f .continuations)
 
-  length-header : length (headerBytes f) ≡ 24
+  pub length-header : length (headerBytes f) ≡ headerDataSize (f .units)
   unfolding headerBytes
-  length-header = simp (length-append, length-numberBytes)
+  length-header = simp (length-append, length-numberBytes) (omega (arith, length-units (f .units)))
 
   header-ends : length (blockBytes 0x00443355 (headerBytes f) (f .meta)) ≡ headerSize f
-  header-ends = omega (arith, length-block 0x00443355 (headerBytes f) (f .meta), length-header, length-withPadding (f .meta))
+  header-ends = omega (arith, length-block 0x00443355 (headerBytes f) (f .meta), length-header, whole-words (f .units), length-withPadding (f .meta))
 
   -- the file size that a header states is the length of its file
   pub file-sized : length (fileBytes f) ≡ fileSize f
@@ -66,8 +93,11 @@ module _ (f : File) where
   abbrev after : List ℕ
   after = replicate (padding (length (headerBytes f))) 0 ++ (withPadding (f .meta) ++ top)
 
+  abbrev units-on : List ℕ
+  units-on = unitsBytes (f .units) ++ after
+
   abbrev encoding-on : List ℕ
-  encoding-on = numberBytes 4 (f .encoding) ++ after
+  encoding-on = numberBytes 4 (f .encoding) ++ units-on
 
   abbrev size-on : List ℕ
   size-on = numberBytes 8 (fileSize f) ++ encoding-on
@@ -100,34 +130,29 @@ module _ (f : File) where
   encoding-here : drop 32 (fileBytes f) ≡ encoding-on
   encoding-here = past (fileBytes f) (numberBytes 8 (fileSize f)) encoding-on 24 size-here 8 (length-numberBytes 8 (fileSize f))
 
+  units-here : drop 36 (fileBytes f) ≡ units-on
+  units-here = past (fileBytes f) (numberBytes 4 (f .encoding)) units-on 32 encoding-here 4 (length-numberBytes 4 (f .encoding))
+
 -- ---- the first block
 
 module _ (f : File) (h : Lawful f) where
+  abbrev profile-stated : Profiled (f .profile) (f .units)
+  profile-stated = profiled (f .profile) (f .units) (h .profile)
+
   version-back : versionOf (fileBytes f) ≡ done (record { minor = f .minor; profile = f .profile })
   unfolding versionOf
   version-back =
       let s = fileBytes f in
-      let profile = profile-known (f .profile) (h .profile) in
       rw (
         field-back 2 s _ 12 0 (omega arith) (omega arith) (major-here f),
         field-back 2 s _ 14 (f .minor) (omega arith) (omega (arith, h .minor)) (minor-here f),
-        field-back 4 s _ 16 (f .profile) (omega arith) (omega (arith, profile .1)) (profile-here f),
-        profile .0,
+        field-back 4 s _ 16 (f .profile) (omega arith) (omega (arith, profile-stated .small)) (profile-here f),
+        profile-stated .known,
       )
 
-  -- the fields that are handed out
-  abbrev pub fieldsIn : FileHeader
-  fieldsIn = record {
-    «minor_version» = f .minor;
-    profile = f .profile;
-    «declaration_size» = f .declaration-size;
-    «file_size» = fileSize f;
-    encoding = f .encoding;
-  }
-
-  fields-back : fieldsOf (fileBytes f) (record { minor = f .minor; profile = f .profile }) ≡ done fieldsIn
-  unfolding fieldsOf
-  fields-back =
+  sizes-back : sizesOf (fileBytes f) ≡ done (record { declaration = f .declaration-size; file = fileSize f })
+  unfolding sizesOf
+  sizes-back =
       let s = fileBytes f in
       let small = h .small in
       let declared = h .declaration-size in
@@ -136,33 +161,47 @@ module _ (f : File) (h : Lawful f) where
         le-ltb (length s) (f .declaration-size) (omega (arith, file-sized f)),
         field-back 8 s _ 24 (fileSize f) (omega arith) (omega arith) (size-here f),
         eq-eqb (fileSize f) (length s) (sym (file-sized f)),
+      )
+
+  fields-back : fieldsOf (fileBytes f) (record { minor = f .minor; profile = f .profile }) (record { declaration = f .declaration-size; file = fileSize f })
+      ≡ done (headerHanded f .fields)
+  unfolding fieldsOf
+  fields-back =
+      let s = fileBytes f in
+      rw (
         field-back 4 s _ 32 (f .encoding) (omega arith) (omega (arith, h .encoding)) (encoding-here f),
+        profile-stated .units-back s (after f) (h .units) (units-here f),
       )
 
   abbrev head : Head
   head = headOf 0x00443355 (headerBytes f) (f .meta)
 
-  abbrev pub firstIn : First
-  firstIn = record { fields = fieldsIn; head = head; next = extentOf 0 head .next }
-
   pub small : length (fileBytes f) ≤ largestFile
   small = omega (arith, file-sized f, h .small)
 
-  -- The header is found.
-  first-back : firstOf (fileBytes f) ≡ done firstIn
-  unfolding firstOf judgedOf restOf
-  first-back =
+  next-is : extentOf 0 head .next ≡ headerSize f
+  next-is = next-at (fileBytes f) (top f) 0 0x00443355 (headerBytes f) (f .meta) (header-here f) ∙ omega (arith, header-ends f)
+
+  -- What a header states is handed out: its fields with the factor's pattern, its numbers, and where the next block starts.
+  pub header-handed : firstOf (fileBytes f) ≡ done (headerHanded f)
+  unfolding firstOf judgedOf sizedOf restOf
+  header-handed =
       let s = fileBytes f in
       let content = headerBytes f in
+      let size = length-header f ∙ sym (profile-stated .size) in
       rw (
         le-ltb largestFile (length s) small,
         head-back s (top f) 0 0x00443355 content (f .meta) (header-here f) (omega arith) small,
-        eq-eqb (length content) 24 (length-header f),
-        le-ltb (length s) 36 (omega (arith, file-sized f)),
+        le-ltb (length s) 36 (omega (arith, file-sized f, length-units (f .units))),
         version-back,
+        eq-eqb (length content) (dataSizeOf (f .profile)) size,
+        le-ltb (length s) (12 + length content) (omega (arith, file-sized f, length-header f)),
+        sizes-back,
         fields-back,
         room-back s (top f) 0 0x00443355 content (f .meta) (header-here f),
         paddings-back s (top f) 0 0x00443355 content (f .meta) (header-here f),
+        next-is,
+        length-header f,
       )
 
   -- ---- the blocks after it
@@ -172,9 +211,6 @@ module _ (f : File) (h : Lawful f) where
 
   abbrev pub continued-at : ℕ
   continued-at = headerSize f + length (blocksBytes (f .declarations))
-
-  next-is : extentOf 0 head .next ≡ declared-at
-  next-is = next-at (fileBytes f) (top f) 0 0x00443355 (headerBytes f) (f .meta) (header-here f) ∙ omega (arith, header-ends f)
 
   pub declarations-here : drop declared-at (fileBytes f) ≡ top f
   declarations-here =
@@ -202,4 +238,4 @@ module _ (f : File) (h : Lawful f) where
 -- A file laid out by the rules is walked to the end, and the rows told are just those of its blocks.
 pub tree-walked : (f : File) → Lawful f → fileOf (fileBytes f) ≡ tells (rowsOf f)
 unfolding fileOf afterFirst andThen rowsOf
-tree-walked f h = rw (first-back f h, next-is f h, top-walked f h)
+tree-walked f h = rw (header-handed f h, top-walked f h, length-header f)

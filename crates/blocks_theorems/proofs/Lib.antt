@@ -12,6 +12,9 @@ pub mod PartNumbers
 pub mod Bounded
 pub mod RowsStand
 pub mod RowsParted
+-- A header that is found states what is handed out of it.
+pub mod HeaderFound
+pub mod HeaderStated
 -- A file laid out by the rules is walked to its rows.
 pub mod PartsBack
 pub mod ChainBack

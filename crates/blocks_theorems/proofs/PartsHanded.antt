@@ -24,7 +24,7 @@ use Rattle.blocks_theorems.proofs.Bounded.{data-bounded, meta-bounded}
 use Rattle.blocks_theorems.proofs.PartsBack.{block-within, data-here, head-back, headOf, length-block, meta-here, next-here}
 use Rattle.blocks_theorems.proofs.ChainBack.{name-here}
 use Rattle.blocks_theorems.proofs.BlocksWalked.{content-here, continuation-small, declaration-small, first-here, whole}
-use Rattle.blocks_theorems.proofs.FileWalked.{continuations-here, declarations-here, header-here, small, top}
+use Rattle.blocks_theorems.proofs.FileWalked.{continuations-here, declarations-here, header-handed, header-here, small, top}
 
 -- a part that stands in a list
 part-taken : (s part rest : List ℕ) (at : ℕ) → at + length part ≤ length s → drop at s ≡ part ++ rest → bytesAt s at (length part) ≡ part
@@ -117,6 +117,7 @@ continuations-handed (chain name type inside meta more) s at d few here = absurd
 -- At every block of a file laid out by the rules its parts are handed out.
 pub tree-handed : (f : File) → Lawful f → AllHanded (fileBytes f) f
 tree-handed f h = record {
+  fields = header-handed f h;
   header = block-handed (fileBytes f) (top f) 0 0x00443355 (headerBytes f) (f .meta) (header-here f) (small f h) (omega arith);
   declarations = declarations-handed (f .declarations) (fileBytes f) (blocksBytes (f .continuations)) _ 4 (h .declarations) (small f h) (declarations-here f h);
   continuations = continuations-handed (f .continuations) (fileBytes f) _ (h .continuations) (small f h) (continuations-here f h);

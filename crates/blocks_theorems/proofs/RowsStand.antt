@@ -2,19 +2,18 @@
 use Prim.Native.Nat.{ℕ, zero, suc, _+_, _-_, _≤_}
 use mathlib.Core.Bool.{Bool, true, false}
 use mathlib.Core.List.{List, [], _∷_, _++_}
-use mathlib.Core.Path.{_≡_, refl, ap, subst, sym, _∙_}
+use mathlib.Core.Path.{_≡_, refl, ap, sym, _∙_}
 use native.Mathlib.Omega.{arith}
 use lib.Dec.{eqb, ltb}
 use lib.ListN.{length, take}
 use lib.Seq.{getD-take, length-take-le}
-use Rattle.fields.specs.Numbers.{truncated, badChain, overLimit, badHeader}
-use Rattle.fields.specs.Limits.{largestFile}
+use Rattle.fields.specs.Numbers.{truncated, badChain}
 use Rattle.fields.specs.Judged.{Judged, done, refused, pick}
 use Rattle.fields.specs.Field.{fieldAt, littleEndian}
 use Rattle.fields.proofs.Judging.{value-before, passed, same-done}
-use Rattle.blocks.specs.Kind.{headerType, isChain, isContinuation}
-use Rattle.blocks.specs.Head.{headAt, extentOf, roomOf, paddingsOf}
-use Rattle.blocks.specs.Header.{headerData, headerEnd, versionOf, fieldsOf, restOf, judgedOf, firstOf}
+use Rattle.blocks.specs.Kind.{isChain, isContinuation}
+use Rattle.blocks.specs.Head.{headAt, extentOf, paddingsOf}
+use Rattle.blocks.specs.Header.{firstOf}
 use Rattle.blocks.specs.Block.{levels, blockAt}
 use Rattle.blocks.specs.Walk.{Outcome, tells, ends, joined, andThen, onJudged, rowOf, fileEnds, blocksOf, insideOf, walkOf, inChainOutcome}
 use Rattle.blocks.specs.File.{afterFirst, fileOf}
@@ -22,7 +21,8 @@ use Rattle.blocks.specs.declared.head.Head.{Head}
 use Rattle.blocks.specs.declared.header.First.{First}
 use Rattle.blocks.specs.declared.block.Block.{Block}
 use Rattle.blocks.specs.declared.tell.Row.{Row}
-use Rattle.blocks.proofs.Fits.{BlockFits, block-fits, chosen, extent-fits, room-within}
+use Rattle.blocks.proofs.Fits.{BlockFits, block-fits, extent-fits, room-within}
+use Rattle.blocks.proofs.Files.{first-judged}
 use Rattle.blocks_theorems.specs.RowParts.{Stands, Each}
 use Rattle.blocks_theorems.proofs.Next.{nextOf}
 use Rattle.blocks_theorems.proofs.Found.{block-found}
@@ -30,7 +30,7 @@ use Rattle.blocks_theorems.proofs.Found.{block-found}
 -- ---- leading numbers
 
 -- a field that was read is its number
-field-number : (width : ℕ) (s : List ℕ) (at v : ℕ) → fieldAt width s at ≡ done v → littleEndian width s at ≡ v
+pub field-number : (width : ℕ) (s : List ℕ) (at v : ℕ) → fieldAt width s at ≡ done v → littleEndian width s at ≡ v
 unfolding fieldAt
 field-number width s at v e = let q = passed (ltb (length s) (at + width)) truncated at _ v e in let same : littleEndian width s at ≡ v = cc in same
 
@@ -136,23 +136,12 @@ inside-stand (suc remaining) s at b f =
 
 -- ---- rows of a file
 
-first-stands : (s : List ℕ) (first : First) → firstOf s ≡ done first → Stands s (rowOf 0 (first .head) 0)
-unfolding firstOf judgedOf restOf
+pub first-stands : (s : List ℕ) (first : First) → firstOf s ≡ done first → Stands s (rowOf 0 (first .head) 0)
 first-stands s first e =
-    let size = passed (ltb largestFile (length s)) overLimit 0 _ first e in
-    let head = value-before (headAt s 0) _ first (size .1) in
-    let type = chosen (eqb (head .0 .«block_type») headerType) _ badHeader 0 first (head .2) in
-    let bytes = chosen (eqb (head .0 .«data_size») headerData) _ badHeader 4 first (type .1) in
-    let room = passed (ltb (length s) headerEnd) truncated 12 _ first (bytes .1) in
-    let version = value-before (versionOf s) _ first (room .1) in
-    let fields = value-before (fieldsOf s (version .0)) _ first (version .2) in
-    let rest = value-before (roomOf (length s) 0 (extentOf 0 (head .0))) _ first (fields .2) in
-    let zeros = value-before (paddingsOf s (extentOf 0 (head .0))) _ first (rest .2) in
-    let same = ap (λ (f : First). f .head) (same-done (zeros .2)) in
-    let w = room-within (length s) 0 (extentOf 0 (head .0)) (rest .0) (rest .1) in
-    let f = extent-fits 0 (head .0) (extentOf 0 (head .0)) refl in
-    subst (λ (head : Head). Stands s (rowOf 0 head 0)) same
-    (head-stands s 0 0 (head .0) (head .1) (omega (arith, f .meta-padding, w .2)))
+    let j = first-judged s first e in
+    let w = room-within (length s) 0 (extentOf 0 (first .head)) tt (j .room) in
+    let f = extent-fits 0 (first .head) (extentOf 0 (first .head)) refl in
+    head-stands s 0 0 (first .head) (j .head-read) (omega (arith, f .meta-padding, w .2))
 
 -- Every row told of a file stands in the file.
 pub rows-stand : (s : List ℕ) → Each (Stands s) (fileOf s .rows)

@@ -105,27 +105,52 @@ Continuations (chain name type inside meta more) = ⊥
 
 -- ---- a whole file
 
+-- a file without units, or the 64-bit pattern of their scaling factor
+pub data Units : Type 0 where
+  unitless : Units
+  scaled : ℕ → Units
+
 pub record File : Type 0 where
   pub minor : ℕ
   pub profile : ℕ
   pub declaration-size : ℕ
   pub encoding : ℕ
+  pub units : Units
   pub meta : List ℕ
   pub declarations : Blocks
   pub continuations : Blocks
 
--- where the header ends: 12 and 24 bytes, and its meta data
+-- 02, Ask 1: "profile bit 0x8 adds an F64 units scaling factor"
+abbrev pub profilesOf : Units → List ℕ
+profilesOf unitless = 0 ∷ 2 ∷ []
+profilesOf (scaled factor) = 8 ∷ 10 ∷ []
+
+abbrev pub unitsBytes : Units → List ℕ
+unitsBytes unitless = []
+unitsBytes (scaled factor) = numberBytes 8 factor
+
+-- "Hand the factor out as its 64-bit pattern, 0 when absent"
+abbrev pub unitsPattern : Units → ℕ
+unitsPattern unitless = 0
+unitsPattern (scaled factor) = factor
+
+-- "so the data is 32 bytes then and 24 otherwise"
+abbrev pub headerDataSize : Units → ℕ
+headerDataSize unitless = 24
+headerDataSize (scaled factor) = 32
+
+-- where the header ends: after 12 bytes, its data and its meta data
 abbrev pub headerSize : File → ℕ
-headerSize f = 36 + length (withPadding (f .meta))
+headerSize f = 12 + headerDataSize (f .units) + length (withPadding (f .meta))
 
 abbrev pub fileSize : File → ℕ
 fileSize f = headerSize f + length (blocksBytes (f .declarations)) + length (blocksBytes (f .continuations))
 
--- "Header data, 24 bytes, fields as clause 9.4.1 lists them": major and minor version, profile, declaration size, file size, encoding
+-- "fields as clause 9.4.1 lists them": major and minor version, profile, declaration size, file size, encoding, units scaling factor
 unfoldable pub headerBytes : File → List ℕ
 headerBytes f =
     numberBytes 2 0 ++ (numberBytes 2 (f .minor) ++ (numberBytes 4 (f .profile)
-    ++ (numberBytes 4 (f .declaration-size) ++ (numberBytes 8 (fileSize f) ++ numberBytes 4 (f .encoding)))))
+    ++ (numberBytes 4 (f .declaration-size) ++ (numberBytes 8 (fileSize f) ++ (numberBytes 4 (f .encoding) ++ unitsBytes (f .units))))))
 
 -- "At the top a header comes once and first .., then declarations, then continuations"
 unfoldable pub fileBytes : File → List ℕ
@@ -141,9 +166,10 @@ rowsOf f =
 pub record Lawful (f : File) : Type 0 where
   pub minor : f .minor < 0x10000
   -- no profile bit but 0x2 and 0x8
-  pub profile : OneOf (f .profile) (0 ∷ 2 ∷ 8 ∷ 10 ∷ [])
+  pub profile : OneOf (f .profile) (profilesOf (f .units))
   pub declaration-size : f .declaration-size ≤ fileSize f
   pub encoding : f .encoding ≤ 0xFFFFFFFF
+  pub units : unitsPattern (f .units) < 0x10000000000000000
   pub declarations : Declarations 4 (f .declarations)
   pub continuations : Continuations (f .continuations)
   -- 16 MiB

@@ -1,4 +1,5 @@
 pub mod Refusals
 pub mod RowParts
+pub mod HeaderStated
 pub mod Layout
 pub mod Handed
