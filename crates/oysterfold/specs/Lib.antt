@@ -1,4 +1,5 @@
 pub mod Result
+pub mod Header
 pub mod Declaration
 pub mod Mesh
 pub mod Steps

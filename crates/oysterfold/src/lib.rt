@@ -3,6 +3,7 @@
 pub mod climbs;
 mod coder_state;
 pub mod declaration;
+pub mod headers;
 pub mod histograms;
 pub mod listings;
 pub mod meshes;
