@@ -64,7 +64,7 @@ def walk_report(name, data):
 def header_line(data):
     """The header's fields, where the first block is good."""
     fields = blocks.header_fields(data) if len(data) <= blocks.PROGRAM_LIMIT else None
-    return b"" if fields is None else b"header\t%d\t%d\t%d\t%d\t%d\n" % fields
+    return b"" if fields is None else b"header\t%d\t%d\t%d\t%d\t%d\t%d\n" % fields
 
 
 def part_line(data, at):

@@ -1,7 +1,8 @@
 """Files that show how a walk over the blocks judges.
 
-Each case gives the answer that document 01 asks for, worked out by hand. In most
-files the header ends at 36, so the second block starts there and its data at 48.
+Each case gives the answer that documents 01 and 02 ask for, worked out by hand. In most
+files the header ends at 36 (with units at 44), so the second block starts there and its
+data at 48.
 A chain named "ab" at 36 has its name at 48, type at 52, attributes at 56, no
 padding, its modifier count at 60 and its first block at 64.
 """
@@ -10,8 +11,8 @@ import struct
 from typing import NamedTuple
 
 from u3d.blocks import (
-    CHAIN, CONTINUATIONS, DECLARATIONS, HEADER, PROGRAM_LIMIT, block, chain_data,
-    chain_name, file_of, header_block, name_field, u32, walk, with_file_size)
+    CHAIN, CONTINUATIONS, DECLARATIONS, HEADER, METRES, PROGRAM_LIMIT, block, chain_data,
+    chain_name, file_of, header_block, name_field, u32, u64, walk, with_file_size)
 
 GROUP_NODE = 0xFFFFFF21
 MESH_DECLARATION = 0xFFFFFF31
@@ -111,6 +112,22 @@ def good_headers():
     ]
 
 
+def good_units():
+    """The factor is handed out as it stands: nothing is asked of it."""
+    patterns = {
+        "millimetres": struct.pack("<d", 0.001), "zero": struct.pack("<d", 0.0),
+        "negative": struct.pack("<d", -2.5), "infinite": struct.pack("<d", float("inf")),
+        "not-a-number": u64(0x7FF8000000000001), "all-bits": u64(2 ** 64 - 1),
+        "lowest-byte": u64(1),
+    }
+    return [Case("00-units-%s.u3d" % name, 0, 0, file_of(NODE, profile=8, units=pattern))
+            for name, pattern in patterns.items()] + [
+        Case("00-units-extensible.u3d", 0, 0, file_of(NODE, UPDATE, profile=10)),
+        Case("00-units-header-meta.u3d", 0, 0, file_of(NODE, profile=8, meta=b"metre")),
+        Case("00-units-declaration-size-44.u3d", 0, 0, file_of(profile=8, declaration_size=44)),
+    ]
+
+
 def good_blocks():
     sizes = [block(GROUP_NODE, b"12345"[:size], b"abcde"[:meta])
              for size in range(6) for meta in range(6)]
@@ -161,8 +178,15 @@ def cut_first_blocks():
         Case("01-meta-size-cut.u3d", 1, 8, head[:11]),
         Case("01-header-data-missing.u3d", 1, 12, head[:12]),
         Case("01-header-data-cut.u3d", 1, 12, head[:35]),
+        Case("01-header-data-cut-size-0.u3d", 1, 12, header_block(data_size=0)[:35]),
+        Case("01-header-data-cut-size-7.u3d", 1, 12, header_block(data_size=7)[:19]),
+        Case("01-units-missing.u3d", 1, 12, file_of(profile=8)[:36]),
+        Case("01-units-cut.u3d", 1, 12, file_of(profile=10)[:43]),
         Case("01-header-meta-missing.u3d", 1, 36, file_of(meta_size=5)),
         Case("01-header-meta-cut.u3d", 1, 36, file_of(meta=b"meta", meta_size=5)),
+        Case("01-units-meta-missing.u3d", 1, 44, file_of(profile=8, meta_size=5)),
+        Case("01-units-meta-padding-cut.u3d", 1, 49,
+             file_of(profile=8, meta=b"metad", meta_padding=b"\0\0")),
         Case("01-header-meta-size-huge.u3d", 1, 36, file_of(NODE, meta_size=HUGE)),
         Case("01-header-meta-padding-missing.u3d", 1, 41, file_of(meta=b"metad", meta_padding=b"")),
         Case("01-header-meta-padding-cut.u3d", 1, 41, file_of(meta=b"metad", meta_padding=b"\0\0")),
@@ -206,8 +230,15 @@ def not_headers():
         Case("02-type-unknown.u3d", 2, 0, file_of(block_type=0x00443356)),
         Case("02-zeros.u3d", 2, 0, bytes(36)),
         Case("02-data-size-23.u3d", 2, 4, file_of(data_size=23)),
-        Case("02-data-size-32.u3d", 2, 4, file_of(bytes(8), profile=8, data_size=32)),
+        Case("02-data-size-28.u3d", 2, 4, file_of(units=bytes(4))),
+        Case("02-data-size-32.u3d", 2, 4, file_of(units=u64(METRES))),
+        Case("02-data-size-32-profile-2.u3d", 2, 4, file_of(profile=2, units=u64(METRES))),
         Case("02-data-size-0.u3d", 2, 4, file_of(data_size=0)),
+        Case("02-data-size-huge.u3d", 2, 4, file_of(data_size=HUGE)),
+        Case("02-units-24.u3d", 2, 4, file_of(profile=8, units=b"")),
+        Case("02-units-24-profile-10.u3d", 2, 4, file_of(NODE, profile=10, units=b"")),
+        Case("02-units-28.u3d", 2, 4, file_of(profile=8, units=bytes(4))),
+        Case("02-units-36.u3d", 2, 4, file_of(profile=8, units=bytes(12))),
         Case("02-major-version-1.u3d", 2, 12, file_of(NODE, major=1)),
         Case("02-major-version-256.u3d", 2, 12, file_of(major=256)),
         Case("02-major-version-negative.u3d", 2, 12, file_of(major=0xFFFF)),
@@ -223,12 +254,22 @@ def wrong_sizes():
         Case("03-file-size-0.u3d", 3, 24, file_of(file_size=0)),
         Case("03-file-size-high-word.u3d", 3, 24, file_of(file_size=36 + 2 ** 32)),
         Case("03-file-size-high-byte.u3d", 3, 24, file_of(file_size=36 + 2 ** 56)),
+        Case("03-units-declaration-size-45.u3d", 3, 20, file_of(profile=8, declaration_size=45)),
+        Case("03-units-file-size-36.u3d", 3, 24, file_of(profile=8, file_size=36)),
     ]
 
 
+# Document 003's annotated cube, its first block as printed: profile 0xC, and so 32 data bytes.
+CUBE_HEADER = bytes.fromhex(
+    "55334400 20000000 00000000 0000 0000 0C000000 29010000 7F02000000000000 6A000000"
+    "000000000000F03F")
+
+
 def wrong_profiles():
-    bits = (0x1, 0x4, 0x6, 0x10, 0x100, 0x80000000)
-    return [Case("04-profile-0x%x.u3d" % bit, 4, 16, file_of(NODE, profile=bit)) for bit in bits]
+    bits = (0x1, 0x4, 0x6, 0xC, 0x10, 0x18, 0x100, 0x80000000)
+    return [Case("04-profile-0x%x.u3d" % bit, 4, 16, file_of(NODE, profile=bit)) for bit in bits] + [
+        Case("04-annotated-cube.u3d", 4, 16, CUBE_HEADER),
+    ]
 
 
 def wrong_paddings():
@@ -243,6 +284,7 @@ def wrong_paddings():
     return [
         Case("05-header-meta-padding.u3d", 5, 37, file_of(meta=b"m", meta_padding=b"\1\0\0")),
         Case("05-header-meta-padding-second.u3d", 5, 38, file_of(meta=b"m", meta_padding=b"\0\1\0")),
+        Case("05-units-meta-padding.u3d", 5, 45, file_of(profile=8, meta=b"m", meta_padding=b"\1\0\0")),
         Case("05-data-padding.u3d", 5, 49, file_of(padded(b"\1\0\0"))),
         Case("05-data-padding-second.u3d", 5, 50, file_of(padded(b"\0\x80\1"))),
         Case("05-data-padding-third.u3d", 5, 51, file_of(padded(b"\0\0\xff"))),
@@ -392,6 +434,7 @@ def out_of_order():
     after = UPDATE  # a continuation at 36, 16 bytes
     return [
         Case("11-header-again.u3d", 11, 36, file_of(file_of())),
+        Case("11-header-with-units-again.u3d", 11, 44, file_of(file_of(profile=8), profile=8)),
         Case("11-header-after-declaration.u3d", 11, 48, file_of(NODE + header_block())),
         Case("11-header-after-continuation.u3d", 11, 52, file_of(b"", after + header_block())),
         Case("11-header-in-chain.u3d", 11, 64, file_of(chain(blocks=[header_block()]))),
@@ -410,8 +453,15 @@ def first_block_priorities():
     return [
         Case("order-1-before-2-head.u3d", 1, 8, bytes(11)),
         Case("order-2-type-before-data-size.u3d", 2, 0, bytes(12)),
-        Case("order-2-data-size-before-1.u3d", 2, 4, header_block(data_size=25)[:12]),
-        Case("order-2-data-size-before-major.u3d", 2, 4, file_of(data_size=32, major=1)),
+        Case("order-1-before-2-data-size.u3d", 1, 12, header_block(data_size=25)[:35]),
+        Case("order-2-major-before-data-size.u3d", 2, 12, file_of(data_size=32, major=1)),
+        Case("order-4-before-2-data-size.u3d", 4, 16, file_of(data_size=25, profile=4)),
+        Case("order-4-before-2-units-24.u3d", 4, 16, file_of(profile=12, units=b"")),
+        Case("order-2-data-size-before-1.u3d", 2, 4, file_of(data_size=40)),
+        Case("order-2-units-24-before-1.u3d", 2, 4, header_block(profile=8, units=b"", declaration_size=HUGE)),
+        Case("order-2-data-size-before-3.u3d", 2, 4, file_of(data_size=25, declaration_size=HUGE, file_size=0)),
+        Case("order-1-units-before-3.u3d", 1, 12, header_block(profile=8, declaration_size=HUGE)[:40]),
+        Case("order-3-before-units-meta.u3d", 3, 24, file_of(profile=8, file_size=0, meta_size=9)),
         Case("order-1-before-2-major.u3d", 1, 12, header_block(major=1)[:35]),
         Case("order-1-before-4.u3d", 1, 12, header_block(profile=4)[:20]),
         Case("order-2-before-4.u3d", 2, 12, file_of(major=1, profile=4)),
@@ -497,7 +547,7 @@ def chain_field_priorities():
 
 def cases():
     groups = (
-        good_headers, good_blocks, good_chains, cut_first_blocks, cut_later_blocks, not_headers,
+        good_headers, good_units, good_blocks, good_chains, cut_first_blocks, cut_later_blocks, not_headers,
         wrong_sizes, wrong_profiles, wrong_paddings, unknown_types, deep_chains,
         cut_chain_fields, wrong_chain_fields, blocks_past_chain, unfilled_chains, long_names,
         large_files, out_of_order, first_block_priorities, block_priorities, chain_priorities,
@@ -570,7 +620,7 @@ def plain_names(data, rows):
 def mutants():
     """(name, data) of changed files, no two with the same answer, up to `MUTANTS` of each."""
     inner = chain(b"n", blocks=[block(GROUP_NODE, b"12345", b"m")] * 11)
-    good = (sample(), whole(), file_of(inner, UPDATE, meta=b"head"), file_of(nest(4, [NODE]), UPDATE))
+    good = (sample(), whole(), file_of(inner, UPDATE, meta=b"head"), file_of(nest(4, [NODE]), UPDATE, profile=8))
     dice, found = Dice(363), {number: {} for number in MUTANTS}
     for _ in range(TRIES):
         data = mutate(dice, dice.pick(good))

@@ -1,7 +1,7 @@
 """Blocks of a Universal 3D file: builders for tests, and a reader to compare with.
 
 Written from ECMA-363 (4th edition), clauses 9.1, 9.2, 9.4.1 and 9.4.3, and from
-document 01, whose sentences the comments quote. Shares nothing with the proved code.
+documents 01 and 02, whose sentences the comments quote. Shares nothing with the proved code.
 """
 
 import struct
@@ -41,9 +41,11 @@ TOO_LARGE = 9
 OUT_OF_ORDER = 11
 
 HEAD_SIZE = 12  # 9.2: block type, data size, meta data size
-HEADER_DATA_SIZE = 24  # 9.4.1 without the units scaling factor
+DATA_WITHOUT_UNITS = 24  # 9.4.1 without the units scaling factor
 HEADER_FIELDS = "<HHIIQI"  # 9.4.1.1 to 9.4.1.5, versions as bit patterns
-PROFILE_BITS = 0x2 | 0x8
+EXTENSIBLE = 0x2
+DEFINED_UNITS = 0x8
+METRES = 0x3FF0000000000000  # the bit pattern of the F64 1.0
 
 
 # Builders. Every field follows from the contents unless it is given.
@@ -79,11 +81,12 @@ def block(block_type, data=b"", meta=b"", data_size=None, meta_size=None,
 
 
 def header_block(file_size=0, declaration_size=0, major=0, minor=0, profile=0,
-                 encoding=106, block_type=HEADER, **parts):
-    """9.4.1: the file header block; `parts` are those of `block`."""
+                 encoding=106, units=None, block_type=HEADER, **parts):
+    """9.4.1: the file header block; `units` are the factor's bytes, `parts` those of `block`."""
     data = struct.pack(HEADER_FIELDS, major, minor, profile,
                        declaration_size, file_size, encoding)
-    return block(block_type, data, **parts)
+    factor = u64(METRES) if profile & DEFINED_UNITS else b""
+    return block(block_type, data + _given(units, factor), **parts)
 
 
 def name_field(name, length=None):
@@ -134,7 +137,7 @@ def walk(data, limit=LIBRARY_LIMIT):
 
 
 def header_fields(data):
-    """(minor, profile, declaration size, file size, encoding), None if block 1 is refused.
+    """(minor, profile, declaration size, file size, encoding, units), None if block 1 is refused.
 
     The first block is judged alone, before the rest of the file.
     """
@@ -221,33 +224,47 @@ def _read_file(data):
 
 
 def _read_header(data):
-    """The first block, in 01's order: its fields, its row, its end."""
+    """The first block, in 02's order: its fields, its row, its end."""
     block_type, data_size, meta_size = _read_head(data, 0, len(data), CUT)
     if block_type != HEADER:
         raise Refused(NOT_A_HEADER, 0)
-    if data_size != HEADER_DATA_SIZE:
+    _need(12, DATA_WITHOUT_UNITS, len(data), CUT)
+    major, *fields = struct.unpack_from(HEADER_FIELDS, data, 12)
+    _judge_version(major, fields[1])
+    if data_size != _header_data_size(fields[1]):
         raise Refused(NOT_A_HEADER, 4)
-    _need(12, HEADER_DATA_SIZE, len(data), CUT)
-    fields = _read_header_data(data)
+    _need(12, data_size, len(data), CUT)
+    _judge_sizes(fields[2], fields[3], len(data))
     edges = _edges(0, data_size, meta_size)
     _judge_room(edges, len(data), CUT)
     _judge_paddings(data, edges)
-    return fields, (0, block_type, data_size, meta_size, 0), edges[-1]
+    return (*fields, _units(data, fields[1])), (0, block_type, data_size, meta_size, 0), edges[-1]
 
 
-def _read_header_data(data):
-    """01: "major version (2), 4, 3"."""
-    major, *fields = struct.unpack_from(HEADER_FIELDS, data, 12)
-    _, profile, declaration_size, file_size, _ = fields
+def _header_data_size(profile):
+    """02: "profile bit 0x8 adds an F64 .., so the data is 32 bytes then and 24 otherwise"."""
+    return 32 if profile & DEFINED_UNITS else DATA_WITHOUT_UNITS
+
+
+def _judge_version(major, profile):
+    """02: "major version, 4"."""
     if major != 0:
         raise Refused(NOT_A_HEADER, 12)
-    if profile & ~PROFILE_BITS:
+    if profile & ~(EXTENSIBLE | DEFINED_UNITS):
         raise Refused(PROFILE, 16)
-    if declaration_size > len(data):
+
+
+def _judge_sizes(declaration_size, file_size, length):
+    """01: "file size field differs from the file's length, or declaration size exceeds" it."""
+    if declaration_size > length:
         raise Refused(WRONG_SIZE, 20)
-    if file_size != len(data):
+    if file_size != length:
         raise Refused(WRONG_SIZE, 24)
-    return tuple(fields)
+
+
+def _units(data, profile):
+    """02: "Hand the factor out as its 64-bit pattern, 0 when absent"; 9.4.1.6."""
+    return int.from_bytes(data[36:44], "little") if profile & DEFINED_UNITS else 0
 
 
 def _read_block(data, at, end, depth, allowed, rows):

@@ -35,7 +35,8 @@ fn print_header(file: &[u8]) {
     print_number(header.profile as u64, b"\t");
     print_number(header.declaration_size as u64, b"\t");
     print_number(header.file_size, b"\t");
-    print_number(header.encoding as u64, b"\n");
+    print_number(header.encoding as u64, b"\t");
+    print_number(header.units, b"\n");
 }
 
 fn print_listing(file: &[u8]) {
