@@ -1,12 +1,13 @@
 /*
- * Reads the first base mesh of a file and a climb text, goes up as far as there are steps, comes
- * down again, and prints what was done.
+ * Reads the units and the first base mesh of a file and a climb text, goes up as far as there are
+ * steps, comes down again, and prints what was done.
  *
  *     climb FILE CLIMB
  */
 #include <inttypes.h>
 #include <stdio.h>
 #include <stdlib.h>
+#include <string.h>
 
 #include "oysterfold.h"
 
@@ -58,6 +59,20 @@ static void expect_done(const char *what, uint32_t number, const uint64_t *resul
         fprintf(stderr, "%s: refused, %" PRIu32 " at %" PRIu64 "\n", what, number, result[0]);
         exit(1);
     }
+}
+
+/* How many metres a unit of the file is: the factor comes as the bit pattern of a double. */
+static void print_units(void)
+{
+    uint64_t result[8];
+    double metres;
+
+    expect_done("header", oysterfold_header(file.data, file.len, result, 8), result);
+    memcpy(&metres, &result[6], sizeof metres);
+    if (result[2] & OYSTERFOLD_DEFINED_UNITS)
+        printf("header: %g metres a unit\n", metres);
+    else
+        printf("header: no units\n");
 }
 
 /* The row of the first block whose type ends in a byte; NULL where there is none. */
@@ -135,6 +150,7 @@ int main(int argc, char **argv)
     }
     read_input(argv[1], &file);
     read_input(argv[2], &text);
+    print_units();
     expect_done("file", oysterfold_walk(file.data, file.len, rows, sizeof rows / sizeof *rows,
                                         result, 2), result);
     printf("file: %" PRIu64 " blocks\n", result[1]);

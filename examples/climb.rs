@@ -1,4 +1,5 @@
-//! Reads the first base mesh of a file and a climb text, goes up as far as there are steps, comes down again, and prints what was done.
+//! Reads the units and the first base mesh of a file and a climb text, goes up as far as there are steps, comes down again, and prints what
+//! was done.
 //!
 //!     climb FILE CLIMB
 
@@ -39,6 +40,20 @@ fn expect_done(what: &str, number: u32, result: &[u64]) {
 
 fn read_input(name: &str) -> Vec<u8> {
     std::fs::read(name).unwrap_or_else(|error| stop(format!("{name}: {error}")))
+}
+
+/// How many metres a unit of the file is.
+fn print_units(file: &[u8]) {
+    let header = oysterfold::Header::read(file).unwrap_or_else(|refused| {
+        stop(format!(
+            "header: refused, {} at {}",
+            refused.number, refused.place
+        ))
+    });
+    match header.metres() {
+        Some(metres) => println!("header: {metres} metres a unit"),
+        None => println!("header: no units"),
+    }
 }
 
 /// The rows of the file's blocks.
@@ -164,6 +179,7 @@ fn main() {
         stop("usage: climb FILE CLIMB".to_string())
     };
     let (file, text) = (read_input(file), read_input(text));
+    print_units(&file);
     let rows = walk(&file);
     let declaration = data_of(&file, &rows, DECLARATION);
     let mut mesh = read_mesh(declaration, data_of(&file, &rows, BASE_MESH));

@@ -5,7 +5,8 @@
  *
  *    0  done
  *    1  the bytes end too early, or a coded value's bits pass the end of the data
- *    2  the first block is no file header of 24 data bytes and major version 0
+ *    2  the first block is no file header of the profile's data size (24 bytes, 32 with bit 0x8)
+ *       and major version 0
  *    3  the file size field is not the file's length, or the declaration size exceeds it
  *    4  a profile bit other than 0x2 and 0x8 is set
  *    5  a padding byte is not 0
@@ -56,9 +57,21 @@ extern "C" {
 /* A field of a face's record that is absent. */
 #define OYSTERFOLD_ABSENT 0xFFFFFFFFu
 
+/* The profile's bit for defined units: the header has a units scaling factor. */
+#define OYSTERFOLD_DEFINED_UNITS 0x8u
+
 /* U64 words of a reader's and of a writer's state. */
 #define OYSTERFOLD_READER 4
 #define OYSTERFOLD_WRITER 5
+
+/*
+ * The fields of a file's header, judged as the walk judges the first block.
+ * result: place, minor version, profile, declaration size, file size, character encoding, units
+ * scaling factor as the bit pattern of its F64 (0 where the profile has no bit 0x8), offset of the
+ * next block. Answers 0 to 5, 9.
+ */
+uint32_t oysterfold_header(const uint8_t *file, size_t file_len, uint64_t *result,
+                           size_t result_len);
 
 /*
  * Walks the blocks of a file, chains before their contents. Lent: room for a row of 5 words a

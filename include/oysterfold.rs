@@ -14,7 +14,66 @@ pub struct Request {
     pub count: u32,
 }
 
+/// Words of the result of `header`.
+pub const HEADER_RESULT: usize = 8;
+
+/// The profile's bit for defined units: the header has a units scaling factor.
+pub const DEFINED_UNITS: u32 = 0x8;
+
+/// A file's header. `units` is the bit pattern of the units scaling factor, an F64, and 0 where the profile has no bit 0x8; `next` is the
+/// offset of the next block.
+#[derive(Clone, Copy, PartialEq, Eq, Debug)]
+pub struct Header {
+    pub minor_version: u16,
+    pub profile: u32,
+    pub declaration_size: u32,
+    pub file_size: u64,
+    pub encoding: u32,
+    pub units: u64,
+    pub next: usize,
+}
+
+/// A refusal: its number and its place.
+#[derive(Clone, Copy, PartialEq, Eq, Debug)]
+pub struct Refused {
+    pub number: u32,
+    pub place: u64,
+}
+
+impl Header {
+    /// The header of a file, judged as the walk judges the first block.
+    pub fn read(file: &[u8]) -> Result<Header, Refused> {
+        let mut result = [0; HEADER_RESULT];
+        let number = header(file, &mut result);
+        let [place, minor_version, profile, declaration_size, file_size, encoding, units, next] =
+            result;
+        if number != 0 {
+            return Err(Refused { number, place });
+        }
+        Ok(Header {
+            minor_version: minor_version as u16,
+            profile: profile as u32,
+            declaration_size: declaration_size as u32,
+            file_size,
+            encoding: encoding as u32,
+            units,
+            next: next as usize,
+        })
+    }
+
+    /// Metres in a unit, where the file has defined units.
+    pub fn metres(&self) -> Option<f64> {
+        (self.profile & DEFINED_UNITS != 0).then(|| f64::from_bits(self.units))
+    }
+}
+
 extern "C" {
+    fn oysterfold_header(
+        file: *const u8,
+        file_len: usize,
+        result: *mut u64,
+        result_len: usize,
+    ) -> u32;
     fn oysterfold_walk(
         file: *const u8,
         file_len: usize,
@@ -171,6 +230,10 @@ extern "C" {
 }
 
 // Each pointer below comes from a slice of the length given beside it, is used during the call only, and none overlap.
+pub fn header(file: &[u8], result: &mut [u64]) -> u32 {
+    unsafe { oysterfold_header(file.as_ptr(), file.len(), result.as_mut_ptr(), result.len()) }
+}
+
 pub fn walk(file: &[u8], rows: &mut [u32], result: &mut [u64]) -> u32 {
     unsafe {
         oysterfold_walk(

@@ -1,6 +1,6 @@
 //! The file header (9.4.1), blocks (9.2) and modifier chains (9.4.3).
 
-use crate::fields::{name_at, u16_at, u32_at};
+use crate::fields::{name_at, u16_at, u32_at, u64_at};
 use crate::refusal::{
     Refusal, BLOCK_TYPE, CHAIN, CUT, FILE_SIZE, LIMIT, MAX_BYTES, MAX_LEVELS, MAX_NAME, NAME,
     NO_HEADER, ORDER, PADDING, PROFILE, ROOM,
@@ -16,18 +16,42 @@ const SIZE_AT: usize = 4;
 const META_SIZE_AT: usize = 8;
 
 const HEADER_TYPE: u32 = 0x0044_3355;
-const HEADER_DATA_SIZE: u32 = 24;
 const CHAIN_TYPE: u32 = 0xFFFF_FF14;
 const MAX_CHAIN_TYPE: u32 = 2;
 
 /// The header's fields, from the start of the file.
 const VERSION_AT: usize = 12;
+const MINOR_VERSION_AT: usize = 14;
 const PROFILE_AT: usize = 16;
 const DECLARATION_SIZE_AT: usize = 20;
 const FILE_SIZE_AT: usize = 24;
+const ENCODING_AT: usize = 32;
+const UNITS_AT: usize = 36;
 
-/// Extensible profile and defined units.
-const PROFILES: u32 = 0x2 | 0x8;
+/// Bytes of the header's fields up to the encoding, and with the units.
+const LEAST_HEADER_DATA: usize = UNITS_AT - HEAD;
+const HEADER_DATA_WITH_UNITS: usize = LEAST_HEADER_DATA + 8;
+
+const EXTENSIBLE: u32 = 0x2;
+const DEFINED_UNITS: u32 = 0x8;
+
+/// A file's header, and where it ends. The units scaling factor is the bit
+/// pattern of its F64, 0 where the file has no units.
+#[derive(Clone, Copy, PartialEq, Eq, Debug)]
+pub struct Header {
+    pub minor_version: u16,
+    pub profile: u32,
+    pub declaration_size: u32,
+    pub file_size: u64,
+    pub encoding: u32,
+    pub units: u64,
+    pub end: usize,
+}
+
+/// Reads the header of a file, which is judged no further.
+pub fn header(file: &[u8]) -> Result<Header, Refusal> {
+    judge_header(whole_file(file)?)
+}
 
 /// Walks over the blocks of a file, a chain before its contents. Gives back
 /// how many there are; a refusal leaves the rows.
@@ -42,16 +66,21 @@ pub fn walk(file: &[u8], rows: &mut [u32]) -> Result<usize, Refusal> {
     Ok(blocks)
 }
 
-/// Judges a file whole, and counts its blocks.
-fn judge_file(file: &[u8]) -> Result<usize, Refusal> {
+/// The bytes of a file that isn't too long.
+fn whole_file(file: &[u8]) -> Result<Region<'_>, Refusal> {
     if file.len() > MAX_BYTES {
         return Err(Refusal::new(LIMIT, 0));
     }
-    let region = Region {
+    Ok(Region {
         bytes: file,
         passed: CUT,
-    };
-    let mut at = judge_header(region)?;
+    })
+}
+
+/// Judges a file whole, and counts its blocks.
+fn judge_file(file: &[u8]) -> Result<usize, Refusal> {
+    let region = whole_file(file)?;
+    let mut at = judge_header(region)?.end;
     let mut judge = Judge {
         blocks: 1,
         continued: false,
@@ -62,34 +91,63 @@ fn judge_file(file: &[u8]) -> Result<usize, Refusal> {
     Ok(judge.blocks)
 }
 
-/// Judges the first block, and gives back where it ends.
-fn judge_header(region: Region) -> Result<usize, Refusal> {
+/// Judges the first block: type, room for the fields that every header has,
+/// version, profile, data size, room for the data, sizes, then the rest.
+fn judge_header(region: Region) -> Result<Header, Refusal> {
     let head = region.head(0)?;
     if head.block_type != HEADER_TYPE {
         return Err(Refusal::new(NO_HEADER, 0));
     }
-    if head.data_size != HEADER_DATA_SIZE {
-        return Err(Refusal::new(NO_HEADER, SIZE_AT));
-    }
-    region.after(HEAD, HEADER_DATA_SIZE as usize)?;
-    if u16_at(region.bytes, VERSION_AT) != Some(0) {
+    region.after(HEAD, LEAST_HEADER_DATA)?;
+    if region.u16(VERSION_AT)? != 0 {
         return Err(Refusal::new(NO_HEADER, VERSION_AT));
     }
-    if region.number(PROFILE_AT)? & !PROFILES != 0 {
+    let profile = region.number(PROFILE_AT)?;
+    if profile & !(EXTENSIBLE | DEFINED_UNITS) != 0 {
         return Err(Refusal::new(PROFILE, PROFILE_AT));
     }
-    let length = region.bytes.len() as u64;
-    if u64::from(region.number(DECLARATION_SIZE_AT)?) > length {
-        return Err(Refusal::new(FILE_SIZE, DECLARATION_SIZE_AT));
+    if head.data_size as usize != header_data_size(profile) {
+        return Err(Refusal::new(NO_HEADER, SIZE_AT));
     }
-    let low = u64::from(region.number(FILE_SIZE_AT)?);
-    let high = u64::from(region.number(FILE_SIZE_AT + 4)?);
-    if high << 32 | low != length {
-        return Err(Refusal::new(FILE_SIZE, FILE_SIZE_AT));
-    }
+    region.after(HEAD, head.data_size as usize)?;
+    let (declaration_size, file_size) = judge_sizes(region)?;
     let sections = region.sections(0, head)?;
     region.judge_paddings(&sections)?;
-    Ok(sections.end)
+    Ok(Header {
+        minor_version: region.u16(MINOR_VERSION_AT)?,
+        profile,
+        declaration_size,
+        file_size,
+        encoding: region.number(ENCODING_AT)?,
+        units: match profile & DEFINED_UNITS {
+            0 => 0,
+            _ => region.u64(UNITS_AT)?,
+        },
+        end: sections.end,
+    })
+}
+
+/// Defined units add their scaling factor.
+fn header_data_size(profile: u32) -> usize {
+    if profile & DEFINED_UNITS == 0 {
+        LEAST_HEADER_DATA
+    } else {
+        HEADER_DATA_WITH_UNITS
+    }
+}
+
+/// The declaration size and the file size, judged by the file's length.
+fn judge_sizes(region: Region) -> Result<(u32, u64), Refusal> {
+    let length = region.bytes.len() as u64;
+    let declaration_size = region.number(DECLARATION_SIZE_AT)?;
+    if u64::from(declaration_size) > length {
+        return Err(Refusal::new(FILE_SIZE, DECLARATION_SIZE_AT));
+    }
+    let file_size = region.u64(FILE_SIZE_AT)?;
+    if file_size != length {
+        return Err(Refusal::new(FILE_SIZE, FILE_SIZE_AT));
+    }
+    Ok((declaration_size, file_size))
 }
 
 #[derive(Clone, Copy, PartialEq, Eq)]
@@ -148,6 +206,14 @@ struct Region<'a> {
 impl<'a> Region<'a> {
     fn number(self, at: usize) -> Result<u32, Refusal> {
         u32_at(self.bytes, at).ok_or(Refusal::new(self.passed, at))
+    }
+
+    fn u16(self, at: usize) -> Result<u16, Refusal> {
+        u16_at(self.bytes, at).ok_or(Refusal::new(self.passed, at))
+    }
+
+    fn u64(self, at: usize) -> Result<u64, Refusal> {
+        u64_at(self.bytes, at).ok_or(Refusal::new(self.passed, at))
     }
 
     /// Where a part of this size ends.
@@ -490,6 +556,33 @@ mod tests {
             let place = if end < 12 { end / 4 * 4 } else { 12 };
             assert_eq!(answer(&file[..end]), refused(CUT, place));
         }
+    }
+
+    #[test]
+    fn units() {
+        let with_units = |profile: u8, data: usize| {
+            let mut file = block(HEADER_TYPE, &vec![0x11; data], &[]);
+            file[VERSION_AT..UNITS_AT].fill(0);
+            file[PROFILE_AT] = profile;
+            file[FILE_SIZE_AT] = file.len() as u8;
+            file
+        };
+        for profile in [0x8, 0xA] {
+            let file = with_units(profile, 32);
+            let read = header(&file).unwrap();
+            assert_eq!((read.units, read.end), (0x1111_1111_1111_1111, 44));
+            for end in 12..44 {
+                assert_eq!(answer(&file[..end]), refused(CUT, 12));
+            }
+            assert_eq!(answer(&with_units(profile, 24)), refused(NO_HEADER, 4));
+        }
+        for profile in [0x0, 0x2] {
+            let read = header(&with_units(profile, 24)).unwrap();
+            assert_eq!((read.units, read.end), (0, 36));
+            assert_eq!(answer(&with_units(profile, 32)), refused(NO_HEADER, 4));
+        }
+        assert_eq!(answer(&with_units(0xC, 32)), refused(PROFILE, 16));
+        assert_eq!(answer(&with_units(0xC, 24)), refused(PROFILE, 16));
     }
 
     #[test]

@@ -1,8 +1,8 @@
 //! What each exported function should do, by the independent program: the same parameters and answers as the library's.
 
 use crate::{
-    Request, COUNT_WORDS, DECLARATION_RESULT_WORDS, MESH_RESULT_WORDS, READER_WORDS, RESULT_WORDS,
-    WRITER_WORDS,
+    Request, COUNT_WORDS, DECLARATION_RESULT_WORDS, HEADER_RESULT_WORDS, MESH_RESULT_WORDS,
+    READER_WORDS, RESULT_WORDS, WRITER_WORDS,
 };
 use independent::coder::{fresh_histogram, Histogram, State, Writer};
 use independent::refusal::{Refusal, ROOM};
@@ -20,6 +20,29 @@ fn told(given: Result<usize, Refusal>, result: &mut [u64]) -> u32 {
     };
     result[..RESULT_WORDS].copy_from_slice(&[place as u64, word as u64]);
     number
+}
+
+pub fn header(file: &[u8], result: &mut [u64]) -> u32 {
+    let Some(result) = result.first_chunk_mut::<HEADER_RESULT_WORDS>() else {
+        return ROOM;
+    };
+    *result = [0; HEADER_RESULT_WORDS];
+    match blocks::header(file) {
+        Ok(header) => {
+            result[1] = header.minor_version.into();
+            result[2] = header.profile.into();
+            result[3] = header.declaration_size.into();
+            result[4] = header.file_size;
+            result[5] = header.encoding.into();
+            result[6] = header.units;
+            result[7] = header.end as u64;
+            0
+        }
+        Err(refusal) => {
+            result[0] = refusal.place as u64;
+            refusal.number
+        }
+    }
 }
 
 pub fn walk(file: &[u8], rows: &mut [u32], result: &mut [u64]) -> u32 {

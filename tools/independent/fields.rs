@@ -12,6 +12,12 @@ pub(crate) fn u16_at(bytes: &[u8], at: usize) -> Option<u16> {
     Some(u16::from_le_bytes(*bytes))
 }
 
+/// The U64 at an offset, where it is whole.
+pub(crate) fn u64_at(bytes: &[u8], at: usize) -> Option<u64> {
+    let bytes = bytes.get(at..)?.first_chunk()?;
+    Some(u64::from_le_bytes(*bytes))
+}
+
 /// The bytes of the name (U16 length, then the bytes) at an offset, where it
 /// is whole.
 pub(crate) fn name_at(bytes: &[u8], at: usize) -> Option<std::ops::Range<usize>> {

@@ -19,8 +19,9 @@ use independent::random::Random;
 type Run = fn(&mut Random, &mut Tally) -> Result<(), Difference>;
 
 /// Each kind stands here as often as it is its turn.
-const TURNS: [Run; 20] = [
+const TURNS: [Run; 21] = [
     blocks::walk,
+    blocks::header,
     mesh::read_mesh,
     coder::write,
     blocks::listing,

@@ -6,8 +6,9 @@ pub mod library;
 
 pub use library::Request;
 
-/// Words of a result: place and one other; of a declaration's; of a mesh's.
+/// Words of a result: place and one other; of a header's; of a declaration's; of a mesh's.
 pub const RESULT_WORDS: usize = 2;
+pub const HEADER_RESULT_WORDS: usize = 8;
 pub const DECLARATION_RESULT_WORDS: usize = 4;
 pub const MESH_RESULT_WORDS: usize = 9;
 /// Words of a coder's state, and of the present counts.
@@ -28,6 +29,7 @@ pub type Steps = fn(&[u32], u32, &[Request], &mut [u32], &mut [u32], &mut [u32],
 
 /// Each answers the number; parameters are those of the exported function.
 pub struct Side {
+    pub header: fn(&[u8], &mut [u64]) -> u32,
     pub walk: Reading<u32>,
     pub listing: Reading<u8>,
     pub declaration: Reading<u32>,
@@ -51,6 +53,7 @@ pub struct Side {
 macro_rules! side {
     ($module:ident) => {
         Side {
+            header: $module::header,
             walk: $module::walk,
             listing: $module::listing,
             declaration: $module::declaration,

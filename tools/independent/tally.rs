@@ -19,6 +19,7 @@ macro_rules! functions {
 }
 
 functions! {
+    Header "header"
     Walk "walk"
     Listing "listing"
     Declaration "declaration"

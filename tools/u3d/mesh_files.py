@@ -11,6 +11,7 @@ Data above 16 MiB (9) can't be stored here. Nor can a static value not below its
 takes a range above 0x3FFE, and so a pool above 0x3FFE entries.
 """
 
+import struct
 from typing import NamedTuple
 
 from u3d.block_files import (
@@ -594,7 +595,7 @@ def cases():
 
 def sample():
     """A file of two base meshes: one is read, one has a shading id that is not below its count.
-    Their declarations stand in chains, as exporters write them."""
+    Their declarations stand in chains, as exporters write them. The units are millimetres."""
     wall_counts, arch_counts = (5, 4, 2, 3, 0, 4), (2, 4, 0, 0, 0, 0)
     wall = declared(wall_counts, KINDS[:6], 0, name=b"wall")
     arch = declared(arch_counts, (Shading(),), name=b"arch\t2\\")
@@ -604,7 +605,7 @@ def sample():
     outer = chain(wall.name, chain_type=1, blocks=[block(MESH_DECLARATION, declaration_data(wall)), inner])
     world = block(GROUP_NODE, name_field(b"world") + u32(0))
     return file_of(world + outer, block(BASE_MESH, base_of(wall, wall_counts, wall_faces))
-                   + block(BASE_MESH, arch_base))
+                   + block(BASE_MESH, arch_base), profile=8, units=struct.pack("<d", 0.001))
 
 
 # Good pairs, changed at random places: the reader alone gives their answers.

@@ -1,5 +1,6 @@
 //! Block files: header, declarations, chains in chains, continuations (clauses 9.2, 9.4.1, 9.4.3).
 
+use super::damage::other_value;
 use super::piece::Piece;
 use crate::random::Random;
 use crate::refusal::{MAX_LEVELS, MAX_NAME};
@@ -15,13 +16,16 @@ const DECLARATIONS: [u8; 21] = [
 ];
 const CONTINUATIONS: [u8; 6] = [0x15, 0x3B, 0x3C, 0x3E, 0x3F, 0x5C];
 
+/// Bytes of the header's data, without units and with them.
 const HEADER_DATA: u32 = 24;
+const HEADER_DATA_WITH_UNITS: u32 = 32;
 const PROFILES: [u32; 4] = [0x0, 0x2, 0x8, 0xA];
+const DEFINED_UNITS: u32 = 0x8;
 const UTF8: u32 = 106;
-/// Where the header's sizes and the end of its data stand.
+/// Where the header's profile and sizes stand.
+const PROFILE_AT: usize = 16;
 const DECLARATION_SIZE_AT: usize = 20;
 const FILE_SIZE_AT: usize = 24;
-pub const HEADER_END: usize = 36;
 
 const DATA_SIZE_AT: usize = 4;
 const META_SIZE_AT: usize = 8;
@@ -33,10 +37,21 @@ const MOST_DATA: usize = 20;
 const MOST_IN_CHAIN: usize = 4;
 const MOST_BLOCKS: usize = 5;
 
-/// A header without meta data; its sizes are set when the file is whole.
-pub fn put_header(file: &mut Piece, profile: u32) {
-    for number in [HEADER, HEADER_DATA, 0, 0, profile, 0, 0, 0, UTF8] {
+/// A header without meta data; its sizes are set when the file is whole. The units scaling factor's pattern is put where the profile has
+/// units.
+fn put_header(file: &mut Piece, profile: u32, units: u64) {
+    let has_units = profile & DEFINED_UNITS != 0;
+    let size = if has_units {
+        HEADER_DATA_WITH_UNITS
+    } else {
+        HEADER_DATA
+    };
+    for number in [HEADER, size, 0, 0, profile, 0, 0, 0, UTF8] {
         file.put_u32(number);
+    }
+    if has_units {
+        file.put_u32(units as u32);
+        file.put_u32((units >> 32) as u32);
     }
 }
 
@@ -168,7 +183,8 @@ fn random_blocks(file: &mut Piece, random: &mut Random) -> u32 {
 pub fn random_file(random: &mut Random) -> Piece {
     let mut file = Piece::new();
     let profile = random.pick(&PROFILES);
-    put_header(&mut file, profile);
+    let units = random.u64();
+    put_header(&mut file, profile, units);
     if random.once_in(6) {
         let meta = random_bytes(random);
         put_meta(&mut file, 0, &meta);
@@ -188,10 +204,30 @@ pub fn mend_sizes(file: &mut Piece, random: &mut Random) {
     set_sizes(file, declared);
 }
 
-/// The blocks of another file after this one's.
+/// The blocks of another file after this one's, and the meta data of its header before them.
 pub fn append(file: &mut Piece, other: &Piece) {
-    let blocks = other.bytes.get(HEADER_END..).unwrap_or(&[]);
+    let data = other.u32_at(DATA_SIZE_AT).unwrap_or(HEADER_DATA) as usize;
+    let blocks = other.bytes.get(HEAD + data..).unwrap_or(&[]);
     file.put_bytes(blocks);
+}
+
+/// Bytes in which a header's fields stand, and a little more.
+const ABOUT_HEADER: usize = 56;
+/// Profiles that a damaged header may have: all with no bit above 0x8.
+const LOW_PROFILES: u32 = 0x10;
+
+/// A file that is cut about its header's end, or has another number in its header.
+pub fn damage_header(file: &mut Piece, random: &mut Random) {
+    match random.below(4) {
+        0 => file.bytes.truncate(random.below(ABOUT_HEADER)),
+        1 => file.set_u32(PROFILE_AT, random.u32_below(LOW_PROFILES)),
+        2 => file.set_u32(DATA_SIZE_AT, random.pick(&[24, 32, 0, 28, 36, u32::MAX])),
+        _ => {
+            let at = random.below(ABOUT_HEADER / 4) * 4;
+            let value = file.u32_at(at).unwrap_or(0);
+            file.set_u32(at, other_value(random, value));
+        }
+    }
 }
 
 const CHAIN_BLOCKS: usize = 50;
@@ -226,7 +262,7 @@ fn put_nest(file: &mut Piece, levels: usize) {
 /// A file of small blocks, of `limit` bytes or a little less: a multiple of 4.
 pub fn large_file(limit: usize) -> Vec<u8> {
     let mut file = Piece::new();
-    put_header(&mut file, 0);
+    put_header(&mut file, 0, 0);
     put_nest(&mut file, LEVELS);
     while file.bytes.len() + ROUND_ROOM <= limit {
         put_small_blocks(&mut file, TOP_BLOCKS);

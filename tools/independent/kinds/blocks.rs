@@ -1,19 +1,26 @@
-//! Block files: walk and listing.
+//! Block files: header, walk and listing.
 
 use super::{random_result, random_room};
 use crate::call::{both, Call, Lent};
 use crate::report::{Difference, Part};
 use crate::tally::{Function, Tally};
 use independent::blocks::ROW;
-use independent::files::blocks::{append, mend_sizes, random_file};
+use independent::files::blocks::{append, damage_header, mend_sizes, random_file};
 use independent::files::damage::{damage, damage_some};
 use independent::files::piece::Piece;
 use independent::random::Random;
-use sides::{Side, RESULT_WORDS};
+use sides::library::Header;
+use sides::{Side, HEADER_RESULT_WORDS, RESULT_WORDS};
 
 /// Words that hold the rows of nearly every file made here, and bytes that hold its text.
 const MOST_ROWS: usize = 2_000;
 const MOST_TEXT: usize = 16_000;
+
+#[derive(Clone, PartialEq)]
+pub struct HeaderCall<'a> {
+    pub file: &'a [u8],
+    pub result: Lent<u64>,
+}
 
 /// Walk and listing: what they are lent differs in the table's words alone.
 #[derive(Clone, PartialEq)]
@@ -28,6 +35,27 @@ pub struct ListingCall<'a> {
     pub file: &'a [u8],
     pub text: Lent<u8>,
     pub result: Lent<u64>,
+}
+
+impl Call for HeaderCall<'_> {
+    fn function(&self) -> Function {
+        Function::Header
+    }
+
+    fn make(&mut self, side: &Side) -> u32 {
+        (side.header)(self.file, self.result.lend())
+    }
+
+    fn take_result(&mut self, from: &Self) {
+        self.result.clone_from(&from.result);
+    }
+
+    fn parts(&self) -> Vec<Part> {
+        vec![
+            Part::input("file", self.file),
+            Part::output("result", &self.result),
+        ]
+    }
 }
 
 impl Call for WalkCall<'_> {
@@ -92,6 +120,22 @@ fn any_file(random: &mut Random) -> Piece {
     file
 }
 
+/// A file whose header is mostly damaged.
+fn any_header(random: &mut Random) -> Piece {
+    let mut file = random_file(random);
+    if random.once_in(4) {
+        return file;
+    }
+    damage_header(&mut file, random);
+    if random.once_in(4) {
+        damage_header(&mut file, random);
+    }
+    if random.once_in(2) {
+        mend_sizes(&mut file, random);
+    }
+    file
+}
+
 /// The words that the rows take; some where the file is refused.
 fn rows_needed(file: &[u8]) -> usize {
     let walked = independent::blocks::walk(file, &mut [0; MOST_ROWS]);
@@ -100,6 +144,42 @@ fn rows_needed(file: &[u8]) -> usize {
 
 fn text_needed(file: &[u8]) -> usize {
     independent::blocks::listing(file, &mut [0; MOST_TEXT]).unwrap_or(MOST_TEXT)
+}
+
+/// The binding that makes a struct of the result must say the same.
+fn as_struct(number: u32, call: &HeaderCall) -> Result<(), Difference> {
+    let words = call.result.words();
+    let same = match Header::read(call.file) {
+        _ if words.len() < HEADER_RESULT_WORDS => true,
+        Ok(header) => {
+            let told = [
+                0,
+                header.minor_version.into(),
+                header.profile.into(),
+                header.declaration_size.into(),
+                header.file_size,
+                header.encoding.into(),
+                header.units,
+                header.next as u64,
+            ];
+            number == 0 && words.starts_with(&told)
+        }
+        Err(refused) => (refused.number, refused.place) == (number, words[0]),
+    };
+    match same {
+        true => Ok(()),
+        false => Err(Difference("Header::read: another header".to_string())),
+    }
+}
+
+pub fn header(random: &mut Random, tally: &mut Tally) -> Result<(), Difference> {
+    let file = any_header(random).bytes;
+    let call = HeaderCall {
+        file: &file,
+        result: random_result(random, HEADER_RESULT_WORDS),
+    };
+    let (number, after) = both(&call, tally)?;
+    as_struct(number, &after)
 }
 
 pub fn walk(random: &mut Random, tally: &mut Tally) -> Result<(), Difference> {

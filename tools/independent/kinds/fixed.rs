@@ -1,6 +1,6 @@
 //! Cases that are always the same: lengths and counts at their limits.
 
-use super::blocks::{ListingCall, WalkCall};
+use super::blocks::{HeaderCall, ListingCall, WalkCall};
 use super::climb::ClimbCall;
 use super::coder_call::{CoderCall, Operation};
 use super::mesh::{DeclarationCall, MeshCall};
@@ -20,8 +20,8 @@ use independent::refusal::{
 };
 use independent::steps::{DOWN, UP};
 use sides::{
-    Request, COUNT_WORDS, DECLARATION_RESULT_WORDS, MESH_RESULT_WORDS, READER_WORDS, RESULT_WORDS,
-    WRITER_WORDS,
+    Request, COUNT_WORDS, DECLARATION_RESULT_WORDS, HEADER_RESULT_WORDS, MESH_RESULT_WORDS,
+    READER_WORDS, RESULT_WORDS, WRITER_WORDS,
 };
 
 /// Numbers of each table past its records.
@@ -66,6 +66,7 @@ fn gives<C: Call>(number: u32, call: &C, tally: &mut Tally) -> Result<C, Differe
     }
 }
 
+/// Header, walk and listing; the header is refused as the file is, in the cases here.
 fn walk_and_list(
     number: u32,
     file: &[u8],
@@ -79,6 +80,15 @@ fn walk_and_list(
         result: result.clone(),
     };
     gives(number, &walk, tally)?;
+    let words = Lent::patterned(HEADER_RESULT_WORDS);
+    gives(
+        number,
+        &HeaderCall {
+            file,
+            result: words,
+        },
+        tally,
+    )?;
     let text = Lent::patterned(FEW + TEXT_FOR_WORD * room);
     gives(0, &ListingCall { file, text, result }, tally).map(drop)
 }
