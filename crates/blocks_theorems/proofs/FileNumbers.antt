@@ -15,6 +15,7 @@ use Rattle.fields.specs.Field.{fieldAt}
 use Rattle.fields.specs.Member.{member}
 use Rattle.blocks.specs.Kind.{headerType, isChain, isContinuation}
 use Rattle.blocks.specs.Head.{headSize, dataSizeAt, headAt, extentOf, roomOf, paddingsOf}
+use Rattle.blocks.specs.Header.{majorAt, minorAt, profileAt, declarationSizeAt, fileSizeAt, encodingAt, unitsAt}
 use Rattle.blocks.specs.Header.{leastData, profiles, hasUnits, dataSizeOf, versionOf, sizesOf, unitsOf, fieldsOf, restOf, sizedOf, judgedOf, firstOf}
 use Rattle.blocks.specs.Chain.{inChain}
 use Rattle.blocks.specs.Block.{levels, blockAt}
@@ -41,33 +42,33 @@ module _ (s : List ℕ) where
   unfolding versionOf Refusing
   version-refusing h =
       let len = length s in
-      on-done firstNumbers len (fieldAt 2 s 12) _ (field-refusing firstNumbers len 2 s 12 refl (omega arith)) λ major _.
-      picked firstNumbers len (eqb major 0) _ (refused badHeader 12)
-      (λ _. on-done firstNumbers len (fieldAt 2 s 14) _ (field-refusing firstNumbers len 2 s 14 refl (omega arith)) λ minor _.
-      on-done firstNumbers len (fieldAt 4 s 16) _ (field-refusing firstNumbers len 4 s 16 refl (omega arith)) λ profile _.
-      picked firstNumbers len (member profile profiles) _ (refused badProfile 16) (λ _. tt) (λ _. (refl, omega arith)))
+      on-done firstNumbers len (fieldAt 2 s majorAt) _ (field-refusing firstNumbers len 2 s majorAt refl (omega arith)) λ major _.
+      picked firstNumbers len (eqb major 0) _ (refused badHeader majorAt)
+      (λ _. on-done firstNumbers len (fieldAt 2 s minorAt) _ (field-refusing firstNumbers len 2 s minorAt refl (omega arith)) λ minor _.
+      on-done firstNumbers len (fieldAt 4 s profileAt) _ (field-refusing firstNumbers len 4 s profileAt refl (omega arith)) λ profile _.
+      picked firstNumbers len (member profile profiles) _ (refused badProfile profileAt) (λ _. tt) (λ _. (refl, omega arith)))
       (λ _. (refl, omega arith))
 
   sizes-refusing : Least s → Refusing firstNumbers (length s) (sizesOf s)
   unfolding sizesOf Refusing
   sizes-refusing h =
       let len = length s in
-      on-done firstNumbers len (fieldAt 4 s 20) _ (field-refusing firstNumbers len 4 s 20 refl (omega arith)) λ declared _.
-      refused-if firstNumbers len (ltb len declared) badSize 20 _ refl (omega arith) λ _.
-      on-done firstNumbers len (fieldAt 8 s 24) _ (field-refusing firstNumbers len 8 s 24 refl (omega arith)) λ size _.
-      picked firstNumbers len (eqb size len) _ (refused badSize 24) (λ _. tt) (λ _. (refl, omega arith))
+      on-done firstNumbers len (fieldAt 4 s declarationSizeAt) _ (field-refusing firstNumbers len 4 s declarationSizeAt refl (omega arith)) λ declared _.
+      refused-if firstNumbers len (ltb len declared) badSize declarationSizeAt _ refl (omega arith) λ _.
+      on-done firstNumbers len (fieldAt 8 s fileSizeAt) _ (field-refusing firstNumbers len 8 s fileSizeAt refl (omega arith)) λ size _.
+      picked firstNumbers len (eqb size len) _ (refused badSize fileSizeAt) (λ _. tt) (λ _. (refl, omega arith))
 
   units-refusing : (profile : ℕ) → Least s → Refusing firstNumbers (length s) (unitsOf s profile)
   unfolding unitsOf Refusing
   units-refusing profile h =
       let len = length s in
-      picked firstNumbers len (hasUnits profile) (fieldAt 8 s 36) (done 0) (λ _. field-refusing firstNumbers len 8 s 36 refl (omega arith)) (λ _. tt)
+      picked firstNumbers len (hasUnits profile) (fieldAt 8 s unitsAt) (done 0) (λ _. field-refusing firstNumbers len 8 s unitsAt refl (omega arith)) (λ _. tt)
 
   fields-refusing : (version : _) (sizes : _) → Least s → Refusing firstNumbers (length s) (fieldsOf s version sizes)
   unfolding fieldsOf Refusing
   fields-refusing version sizes h =
       let len = length s in
-      on-done firstNumbers len (fieldAt 4 s 32) _ (field-refusing firstNumbers len 4 s 32 refl (omega arith)) λ encoding _.
+      on-done firstNumbers len (fieldAt 4 s encodingAt) _ (field-refusing firstNumbers len 4 s encodingAt refl (omega arith)) λ encoding _.
       on-done firstNumbers len (unitsOf s (version .profile)) _ (units-refusing (version .profile) h) λ _ _. tt
 
   rest-refusing : (head : Head) (fields : FileHeader) → Least s → Refusing firstNumbers (length s) (restOf s head fields)

@@ -11,6 +11,7 @@ use Rattle.fields.specs.Judged.{done}
 use Rattle.fields.specs.Field.{fieldAt}
 use Rattle.fields.specs.Member.{member}
 use Rattle.fields.proofs.Judging.{passed, same-done, value-before}
+use Rattle.blocks.specs.Header.{majorAt, minorAt, profileAt, declarationSizeAt, fileSizeAt, encodingAt}
 use Rattle.blocks.specs.Header.{profiles, dataSizeOf, versionOf, sizesOf, unitsOf, fieldsOf, firstOf}
 use Rattle.blocks.specs.declared.header.FileHeader.{FileHeader}
 use Rattle.blocks.specs.declared.header.First.{First}
@@ -18,19 +19,19 @@ use Rattle.blocks.proofs.Fits.{chosen}
 use Rattle.blocks.proofs.Files.{first-judged}
 
 record Versioned (s : List ℕ) (minor profile : ℕ) : Type 0 where
-  major-read : fieldAt 2 s 12 ≡ done 0
-  minor-read : fieldAt 2 s 14 ≡ done minor
-  profile-read : fieldAt 4 s 16 ≡ done profile
+  major-read : fieldAt 2 s majorAt ≡ done 0
+  minor-read : fieldAt 2 s minorAt ≡ done minor
+  profile-read : fieldAt 4 s profileAt ≡ done profile
   known : member profile profiles ≡ true
 
 versioned : (s : List ℕ) (version : _) → versionOf s ≡ done version → Versioned s (version .minor) (version .profile)
 unfolding versionOf
 versioned s version e =
-    let major = value-before (fieldAt 2 s 12) _ version e in
-    let zero = chosen (eqb (major .0) 0) _ badHeader 12 version (major .2) in
-    let minor = value-before (fieldAt 2 s 14) _ version (zero .1) in
-    let profile = value-before (fieldAt 4 s 16) _ version (minor .2) in
-    let known = chosen (member (profile .0) profiles) _ badProfile 16 version (profile .2) in
+    let major = value-before (fieldAt 2 s majorAt) _ version e in
+    let zero = chosen (eqb (major .0) 0) _ badHeader majorAt version (major .2) in
+    let minor = value-before (fieldAt 2 s minorAt) _ version (zero .1) in
+    let profile = value-before (fieldAt 4 s profileAt) _ version (minor .2) in
+    let known = chosen (member (profile .0) profiles) _ badProfile profileAt version (profile .2) in
     rw (← same-done (known .1)) (record {
       major-read = major .1 ∙ ap done (eqb-true (major .0) 0 (zero .0));
       minor-read = minor .1;
@@ -39,18 +40,18 @@ versioned s version e =
     })
 
 record Sized (s : List ℕ) (declaration file : ℕ) : Type 0 where
-  declaration-read : fieldAt 4 s 20 ≡ done declaration
+  declaration-read : fieldAt 4 s declarationSizeAt ≡ done declaration
   small : declaration ≤ length s
-  file-read : fieldAt 8 s 24 ≡ done file
+  file-read : fieldAt 8 s fileSizeAt ≡ done file
   same : file ≡ length s
 
 sized : (s : List ℕ) (sizes : _) → sizesOf s ≡ done sizes → Sized s (sizes .declaration) (sizes .file)
 unfolding sizesOf
 sized s sizes e =
-    let declared = value-before (fieldAt 4 s 20) _ sizes e in
-    let within = passed (ltb (length s) (declared .0)) badSize 20 _ sizes (declared .2) in
-    let size = value-before (fieldAt 8 s 24) _ sizes (within .1) in
-    let same = chosen (eqb (size .0) (length s)) _ badSize 24 sizes (size .2) in
+    let declared = value-before (fieldAt 4 s declarationSizeAt) _ sizes e in
+    let within = passed (ltb (length s) (declared .0)) badSize declarationSizeAt _ sizes (declared .2) in
+    let size = value-before (fieldAt 8 s fileSizeAt) _ sizes (within .1) in
+    let same = chosen (eqb (size .0) (length s)) _ badSize fileSizeAt sizes (size .2) in
     rw (← same-done (same .1)) (record {
       declaration-read = declared .1;
       small = ltb-false (length s) (declared .0) (within .0);
@@ -59,22 +60,22 @@ sized s sizes e =
     })
 
 pub record HeaderFound (s : List ℕ) (fields : FileHeader) : Type 0 where
-  pub major : fieldAt 2 s 12 ≡ done 0
-  pub minor : fieldAt 2 s 14 ≡ done (fields .«minor_version»)
-  pub profile : fieldAt 4 s 16 ≡ done (fields .profile)
+  pub major : fieldAt 2 s majorAt ≡ done 0
+  pub minor : fieldAt 2 s minorAt ≡ done (fields .«minor_version»)
+  pub profile : fieldAt 4 s profileAt ≡ done (fields .profile)
   pub known : member (fields .profile) profiles ≡ true
-  pub declaration-size : fieldAt 4 s 20 ≡ done (fields .«declaration_size»)
+  pub declaration-size : fieldAt 4 s declarationSizeAt ≡ done (fields .«declaration_size»)
   pub declaration-small : fields .«declaration_size» ≤ length s
-  pub file-size : fieldAt 8 s 24 ≡ done (fields .«file_size»)
+  pub file-size : fieldAt 8 s fileSizeAt ≡ done (fields .«file_size»)
   pub file-sized : fields .«file_size» ≡ length s
-  pub encoding : fieldAt 4 s 32 ≡ done (fields .encoding)
+  pub encoding : fieldAt 4 s encodingAt ≡ done (fields .encoding)
   pub units : unitsOf s (fields .profile) ≡ done (fields .units)
 
 fields-found : (s : List ℕ) (version : _) (sizes : _) (fields : FileHeader) → fieldsOf s version sizes ≡ done fields
     → Versioned s (version .minor) (version .profile) → Sized s (sizes .declaration) (sizes .file) → HeaderFound s fields
 unfolding fieldsOf
 fields-found s version sizes fields e v z =
-    let encoding = value-before (fieldAt 4 s 32) _ fields e in
+    let encoding = value-before (fieldAt 4 s encodingAt) _ fields e in
     let units = value-before (unitsOf s (version .profile)) _ fields (encoding .2) in
     rw (← same-done (units .2)) (record {
       major = v .major-read;
@@ -94,7 +95,7 @@ same-profile : (s : List ℕ) (version : _) (sizes : _) (fields : FileHeader) �
     → version .profile ≡ fields .profile
 unfolding fieldsOf
 same-profile s version sizes fields e =
-    let encoding = value-before (fieldAt 4 s 32) _ fields e in
+    let encoding = value-before (fieldAt 4 s encodingAt) _ fields e in
     let units = value-before (unitsOf s (version .profile)) _ fields (encoding .2) in
     ap (λ (f : FileHeader). f .profile) (same-done (units .2))
 

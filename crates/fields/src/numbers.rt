@@ -1,10 +1,10 @@
-// The numbers given back, and the refusal that carries one. Beside each stands its sentence of document 01, "Numbers given back": what is
-// said to be below is below it there.
+// The numbers given back, and the refusal that carries one. Beside each stands its sentence of document 01, "Numbers given back", as
+// document 02 amends it: what is said to be below is below it there.
 
 // the bytes end before a field, data, meta data or padding does, or a coded value's settled bits pass the end of the data
 pub const TRUNCATED: u32 = 1;
 
-// the first block isn't 0x00443355 with 24 data bytes and major version 0
+// the first block isn't 0x00443355 with the profile's data size and major version 0
 pub const BAD_HEADER: u32 = 2;
 
 // file size field differs from the file's length, or declaration size exceeds that length
