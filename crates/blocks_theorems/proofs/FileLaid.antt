@@ -30,7 +30,7 @@ use Rattle.blocks_theorems.proofs.BlocksLaid.{Laid, judged-done, listed
 
 -- ---- the units of a header that was found
 
-record UnitsLaid (s : List ℕ) (profile pattern : ℕ) : Type 0 where
+record UnitsLaid (s : List ℕ) (profile : ℕ) : Type 0 where
   units : Units
   size : dataSizeOf profile ≡ headerDataSize units
   here : drop 36 s ≡ unitsBytes units ++ drop (12 + headerDataSize units) s
@@ -38,7 +38,7 @@ record UnitsLaid (s : List ℕ) (profile pattern : ℕ) : Type 0 where
   small : unitsPattern units < 0x10000000000000000
 
 module _ (s : List ℕ) (profile pattern : ℕ) (bytes : Bytes s) (read : unitsOf s profile ≡ done pattern) where
-  without : hasUnits profile ≡ false → OneOf profile (0 ∷ 2 ∷ []) → UnitsLaid s profile pattern
+  without : hasUnits profile ≡ false → OneOf profile (0 ∷ 2 ∷ []) → UnitsLaid s profile
   unfolding dataSizeOf unitsOf
   without e known = record {
     units = unitless;
@@ -48,7 +48,7 @@ module _ (s : List ℕ) (profile pattern : ℕ) (bytes : Bytes s) (read : unitsO
     small = omega arith;
   }
 
-  with-units : hasUnits profile ≡ true → OneOf profile (8 ∷ 10 ∷ []) → UnitsLaid s profile pattern
+  with-units : hasUnits profile ≡ true → OneOf profile (8 ∷ 10 ∷ []) → UnitsLaid s profile
   unfolding dataSizeOf unitsOf
   with-units e known =
       let laid = field-laid 8 s 36 pattern bytes (rw e at read) in record {
@@ -59,7 +59,7 @@ module _ (s : List ℕ) (profile pattern : ℕ) (bytes : Bytes s) (read : unitsO
         small = omega (arith, laid .1);
       }
 
-  units-laid : OneOf profile profiles → UnitsLaid s profile pattern
+  units-laid : OneOf profile profiles → UnitsLaid s profile
   unfolding hasUnits
   units-laid (inl e) = without (rw e) (inl e)
   units-laid (inr (inl e)) = without (rw e) (inr (inl e))
@@ -72,7 +72,7 @@ module _ (s : List ℕ) (profile pattern : ℕ) (bytes : Bytes s) (read : unitsO
 field-then : (k : ℕ) (s q more : List ℕ) (at v : ℕ) → Bytes s → fieldAt k s at ≡ done v → drop (at + k) s ≡ q ++ more → drop at s ≡ (numberBytes k v ++ q) ++ more
 field-then k s q more at v bytes e f = both-laid (drop at s) (numberBytes k v) q (drop (at + k) s) more (field-laid k s at v bytes e .0) f
 
-module _ (s : List ℕ) (bytes : Bytes s) (fields : FileHeader) (h : HeaderFound s fields) (u : UnitsLaid s (fields .profile) (fields .units)) (head : Head)
+module _ (s : List ℕ) (bytes : Bytes s) (fields : FileHeader) (h : HeaderFound s fields) (u : UnitsLaid s (fields .profile)) (head : Head)
     (next : ℕ) (l : Laid levels (length s) s next false) where
   -- the file whose bytes these are
   abbrev fileIn : File

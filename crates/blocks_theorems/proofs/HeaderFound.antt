@@ -2,7 +2,7 @@
 use Prim.Native.Nat.{ℕ, _≤_}
 use mathlib.Core.Bool.{true}
 use mathlib.Core.List.{List}
-use mathlib.Core.Path.{_≡_, ap, _∙_}
+use mathlib.Core.Path.{_≡_, refl, ap, _∙_}
 use borrow.Author.Tests.{eqb-true, ltb-false}
 use lib.Dec.{eqb, ltb}
 use lib.ListN.{length}
@@ -71,41 +71,38 @@ pub record HeaderFound (s : List ℕ) (fields : FileHeader) : Type 0 where
   pub encoding : fieldAt 4 s encodingAt ≡ done (fields .encoding)
   pub units : unitsOf s (fields .profile) ≡ done (fields .units)
 
+-- from the version and the sizes, whose profile it is
 fields-found : (s : List ℕ) (version : _) (sizes : _) (fields : FileHeader) → fieldsOf s version sizes ≡ done fields
-    → Versioned s (version .minor) (version .profile) → Sized s (sizes .declaration) (sizes .file) → HeaderFound s fields
+    → Versioned s (version .minor) (version .profile) → Sized s (sizes .declaration) (sizes .file)
+    → HeaderFound s fields × (version .profile ≡ fields .profile)
 unfolding fieldsOf
 fields-found s version sizes fields e v z =
     let encoding = value-before (fieldAt 4 s encodingAt) _ fields e in
     let units = value-before (unitsOf s (version .profile)) _ fields (encoding .2) in
-    rw (← same-done (units .2)) (record {
-      major = v .major-read;
-      minor = v .minor-read;
-      profile = v .profile-read;
-      known = v .known;
-      declaration-size = z .declaration-read;
-      declaration-small = z .small;
-      file-size = z .file-read;
-      file-sized = z .same;
-      encoding = encoding .1;
-      units = units .1;
-    })
-
--- the profile is the version's
-same-profile : (s : List ℕ) (version : _) (sizes : _) (fields : FileHeader) → fieldsOf s version sizes ≡ done fields
-    → version .profile ≡ fields .profile
-unfolding fieldsOf
-same-profile s version sizes fields e =
-    let encoding = value-before (fieldAt 4 s encodingAt) _ fields e in
-    let units = value-before (unitsOf s (version .profile)) _ fields (encoding .2) in
-    ap (λ (f : FileHeader). f .profile) (same-done (units .2))
+    rw (← same-done (units .2)) (
+      record {
+        major = v .major-read;
+        minor = v .minor-read;
+        profile = v .profile-read;
+        known = v .known;
+        declaration-size = z .declaration-read;
+        declaration-small = z .small;
+        file-size = z .file-read;
+        file-sized = z .same;
+        encoding = encoding .1;
+        units = units .1;
+      },
+      refl,
+    )
 
 module _ (s : List ℕ) (first : First) (e : firstOf s ≡ done first) where
-  pub header-found : HeaderFound s (first .fields)
-  header-found =
+  found : HeaderFound s (first .fields) × (first-judged s first e .version .profile ≡ first .fields .profile)
+  found =
       let j = first-judged s first e in
       fields-found s (j .version) (j .sizes) (first .fields) (j .fields-read) (versioned s (j .version) (j .version-read)) (sized s (j .sizes) (j .sizes-read))
 
+  pub header-found : HeaderFound s (first .fields)
+  header-found = found .0
+
   pub data-sized : first .head .«data_size» ≡ dataSizeOf (first .fields .profile)
-  data-sized =
-      let j = first-judged s first e in
-      rw (← same-profile s (j .version) (j .sizes) (first .fields) (j .fields-read)) (j .size)
+  data-sized = first-judged s first e .size ∙ ap dataSizeOf (found .1)
