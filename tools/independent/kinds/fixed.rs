@@ -67,12 +67,7 @@ fn gives<C: Call>(number: u32, call: &C, tally: &mut Tally) -> Result<C, Differe
 }
 
 /// Header, walk and listing; the header is refused as the file is, in the cases here.
-fn walk_and_list(
-    number: u32,
-    file: &[u8],
-    room: usize,
-    tally: &mut Tally,
-) -> Result<(), Difference> {
+fn read_blocks(number: u32, file: &[u8], room: usize, tally: &mut Tally) -> Result<(), Difference> {
     let result = Lent::patterned(RESULT_WORDS);
     let walk = WalkCall {
         file,
@@ -80,26 +75,22 @@ fn walk_and_list(
         result: result.clone(),
     };
     gives(number, &walk, tally)?;
-    let words = Lent::patterned(HEADER_RESULT_WORDS);
-    gives(
-        number,
-        &HeaderCall {
-            file,
-            result: words,
-        },
-        tally,
-    )?;
+    let header = HeaderCall {
+        file,
+        result: Lent::patterned(HEADER_RESULT_WORDS),
+    };
+    gives(number, &header, tally)?;
     let text = Lent::patterned(FEW + TEXT_FOR_WORD * room);
     gives(0, &ListingCall { file, text, result }, tally).map(drop)
 }
 
 fn long_files(tally: &mut Tally) -> Result<(), Difference> {
     let mut file = large_file(MAX_BYTES);
-    walk_and_list(0, &file, MAX_BYTES / 2, tally)?;
+    read_blocks(0, &file, MAX_BYTES / 2, tally)?;
     file.resize(MAX_BYTES, 0);
-    walk_and_list(3, &file, 0, tally)?;
+    read_blocks(3, &file, 0, tally)?;
     file.push(0);
-    walk_and_list(9, &file, 0, tally)
+    read_blocks(9, &file, 0, tally)
 }
 
 fn plan(base: [u32; TABLES], shadings: usize) -> MeshPlan {
