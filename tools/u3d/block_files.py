@@ -13,6 +13,7 @@ from typing import NamedTuple
 from u3d.blocks import (
     CHAIN, CONTINUATIONS, DECLARATIONS, HEADER, METRES, PROGRAM_LIMIT, block, chain_data,
     chain_name, file_of, header_block, name_field, u32, u64, walk, with_file_size)
+from u3d.cube import CUBE
 
 GROUP_NODE = 0xFFFFFF21
 MESH_DECLARATION = 0xFFFFFF31
@@ -256,19 +257,15 @@ def wrong_sizes():
         Case("03-file-size-high-byte.u3d", 3, 24, file_of(file_size=36 + 2 ** 56)),
         Case("03-units-declaration-size-45.u3d", 3, 20, file_of(profile=8, declaration_size=45)),
         Case("03-units-file-size-36.u3d", 3, 24, file_of(profile=8, file_size=36)),
+        # With profile 8 in place of 0xC its units are taken; it states a byte less than it has.
+        Case("03-annotated-cube-profile-8.u3d", 3, 24, CUBE[:16] + u32(8) + CUBE[20:]),
     ]
-
-
-# Document 003's annotated cube, its first block as printed: profile 0xC, and so 32 data bytes.
-CUBE_HEADER = bytes.fromhex(
-    "55334400 20000000 00000000 0000 0000 0C000000 29010000 7F02000000000000 6A000000"
-    "000000000000F03F")
 
 
 def wrong_profiles():
     bits = (0x1, 0x4, 0x6, 0xC, 0x10, 0x18, 0x100, 0x80000000)
     return [Case("04-profile-0x%x.u3d" % bit, 4, 16, file_of(NODE, profile=bit)) for bit in bits] + [
-        Case("04-annotated-cube.u3d", 4, 16, CUBE_HEADER),
+        Case("04-annotated-cube.u3d", 4, 16, CUBE),
     ]
 
 

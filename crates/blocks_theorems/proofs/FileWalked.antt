@@ -35,22 +35,26 @@ record Profiled (x : ℕ) (units : Units) : Type 0 where
   units-back : (s rest : List ℕ) → unitsPattern units < 0x10000000000000000 → drop 36 s ≡ unitsBytes units ++ rest
       → unitsOf s x ≡ done (unitsPattern units)
 
+module _ (x : ℕ) (known : member x profiles ≡ true) (small : x < 0x100000000) where
+  without : hasUnits x ≡ false → Profiled x unitless
+  unfolding dataSizeOf unitsOf
+  without e = record { known = known; small = small; size = rw e; units-back = λ s rest h here. rw e }
+
+  with-units : (factor : ℕ) → hasUnits x ≡ true → Profiled x (scaled factor)
+  unfolding dataSizeOf unitsOf
+  with-units factor e = record {
+    known = known;
+    small = small;
+    size = rw e;
+    units-back = λ s rest h here. rw e (field-back 8 s rest 36 factor (omega arith) (omega arith) here);
+  }
+
 profiled : (x : ℕ) (units : Units) → OneOf x (profilesOf units) → Profiled x units
-unfolding hasUnits dataSizeOf unitsOf
-profiled x unitless (inl e) = rw e (record { known = refl; small = omega arith; size = refl; units-back = λ s rest h here. refl })
-profiled x unitless (inr (inl e)) = rw e (record { known = refl; small = omega arith; size = refl; units-back = λ s rest h here. refl })
-profiled x (scaled factor) (inl e) = rw e (record {
-  known = refl;
-  small = omega arith;
-  size = refl;
-  units-back = λ s rest h here. field-back 8 s rest 36 factor (omega arith) (omega arith) here;
-})
-profiled x (scaled factor) (inr (inl e)) = rw e (record {
-  known = refl;
-  small = omega arith;
-  size = refl;
-  units-back = λ s rest h here. field-back 8 s rest 36 factor (omega arith) (omega arith) here;
-})
+unfolding hasUnits
+profiled x unitless (inl e) = rw e (without 0 refl (omega arith) refl)
+profiled x unitless (inr (inl e)) = rw e (without 2 refl (omega arith) refl)
+profiled x (scaled factor) (inl e) = rw e (with-units 8 refl (omega arith) factor refl)
+profiled x (scaled factor) (inr (inl e)) = rw e (with-units 10 refl (omega arith) factor refl)
 
 pub length-units : (units : Units) → 24 + length (unitsBytes units) ≡ headerDataSize units
 length-units unitless = refl
