@@ -3,14 +3,14 @@ use Prim.Native.Nat.{ℕ, zero, suc, _+_, _*_, _≤_}
 use Rattle.coder.proofs.Flushing.{end-flush, end-low, end-none, zeros-low, zeros-pending}
 use Rattle.coder.proofs.Judgements.{Writable, writable}
 use Rattle.coder.proofs.Led.{write-told, holds, number-fault, number-room}
-use Rattle.coder.proofs.Putting.{putBits-append}
-use Rattle.coder.proofs.Turns.{settled-length}
+use Rattle.coder.proofs.Stored.{lead-low}
 use Rattle.coder.specs.Bytes.{bytesOf, padded, putBits, storeBits}
-use Rattle.coder.specs.Ending.{bitsOf, endBits, endState, lowBits, lowState}
+use Rattle.coder.specs.Ending.{endBits, endState, lowBits, lowState}
 use Rattle.coder.specs.Forms.{fits}
 use Rattle.coder.specs.Inside.{Holds, roomNumber}
-use Rattle.coder.specs.Interval.{Coder, Span, settledBits}
+use Rattle.coder.specs.Interval.{Coder, Span}
 use Rattle.coder.specs.Symbols.{afterSymbols, byteSpan, plainSpans, symbolsBits}
+use Rattle.coder.specs.Together.{leadBits}
 use Rattle.coder.specs.Writing.{End, Write, Writer, end, endAs, endNumber, write, writeFault, writtenGiven}
 use Rattle.coder.specs.declared.write.Written.{Written}
 use Rattle.fields.specs.Numbers.{noRoom}
@@ -37,31 +37,21 @@ module _ (l : List ℕ) (w : Writer) (next : Coder) (bits : List ℕ) where
 abbrev endsLow : List ℕ → Writer → End
 endsLow l w = endAs (roomNumber l (lowState (w .coder))) l w (lowState (w .coder)) (lowBits (w .coder))
 
--- the top bit and the pending ones, and then the other fifteen
-low-stored : (s : Coder) (l l₁ l₂ l₃ : List ℕ) → l₁ ≡ padded l (s .settled) → l₂ ≡ putBits l₁ (s .settled) (settledBits s)
-    → l₃ ≡ putBits l₂ (s .settled + 1 + s .pending) (bitsOf 15 (s .low)) → l₃ ≡ storeBits l (s .settled) (lowBits s)
-unfolding storeBits lowBits
-low-stored s l l₁ l₂ l₃ pad top word =
-    let place : s .settled + length (settledBits s) ≡ s .settled + 1 + s .pending = omega (arith, settled-length s) in
-    rw (word, top, pad, putBits-append (settledBits s) (bitsOf 15 (s .low)) (padded l (s .settled)) (s .settled), place)
-
 module _ (l : List ℕ) (w : Writer) (t : Coder) (next : t ≡ lowState (w .coder)) where
   pub low-refused : fits t (length l) ≡ false → record { number = noRoom; done = false; used = 0; writer = w; bytes = l } ≡ endsLow l w
   low-refused full = as-refused l w _ _ (rw next at full)
 
-  pub low-within : fits t (length l) ≡ true → w .coder .settled + 1 + w .coder .pending + 15 ≤ 8 * length l
+  pub low-within : fits t (length l) ≡ true → w .coder .settled + 16 + w .coder .pending ≤ 8 * length l
   unfolding lowState
   low-within room =
       let h : lowState (w .coder) .settled + 0 ≤ 8 * length l = leb-true _ _ (rw next at room) in
       omega arith
 
-  pub low-done : (used : ℕ) (l₁ l₂ l₃ : List ℕ) → fits t (length l) ≡ true → used ≡ bytesOf (t .settled) → l₁ ≡ padded l (w .coder .settled)
-      → l₂ ≡ putBits l₁ (w .coder .settled) (settledBits (w .coder))
-      → l₃ ≡ putBits l₂ (w .coder .settled + 1 + w .coder .pending) (bitsOf 15 (w .coder .low))
-      → record { number = 0; done = true; used = used; writer = record { coder = t; compressed = w .compressed }; bytes = l₃ } ≡ endsLow l w
-  unfolding endAs
-  low-done used l₁ l₂ l₃ room size pad top word =
-      as-done l w _ _ _ (rw next at room) (rw (size, next, low-stored (w .coder) l l₁ l₂ l₃ pad top word))
+  pub low-done : (used : ℕ) (l₁ l₂ : List ℕ) → fits t (length l) ≡ true → used ≡ bytesOf (t .settled) → l₁ ≡ padded l (w .coder .settled)
+      → l₂ ≡ putBits l₁ (w .coder .settled) (leadBits 16 (w .coder))
+      → record { number = 0; done = true; used = used; writer = record { coder = t; compressed = w .compressed }; bytes = l₂ } ≡ endsLow l w
+  unfolding endAs storeBits
+  low-done used l₁ l₂ room size pad put = as-done l w _ _ _ (rw next at room) (rw (size, next, put, pad, lead-low (w .coder)))
 
 -- ---- a plain U32 of 0
 

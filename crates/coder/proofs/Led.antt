@@ -1,12 +1,13 @@
 -- Everything that is written is one symbol and then plain bytes: the state after both, the bits of both, and what the call answers.
-use Prim.Native.Nat.{ℕ, zero, suc, _+_, _/_, _≤_, _<_}
-use Rattle.coder.proofs.Sequence.{all-least, all-more}
+use Prim.Native.Nat.{ℕ, zero, suc, _+_, _*_, _/_, _≤_, _<_}
+use Rattle.coder.proofs.Sequence.{all-more, all-most, plain-length}
 use Rattle.coder.proofs.Tests.{first-some}
 use Rattle.coder.specs.Bytes.{padded, putBits, storeBits}
 use Rattle.coder.specs.Forms.{fits, unless}
 use Rattle.coder.specs.Inside.{Holds, roomNumber}
-use Rattle.coder.specs.Interval.{Coder, Span, afterSymbol, largestRange, symbolBits}
+use Rattle.coder.specs.Interval.{Coder, Span, afterSymbol, largestRange, narrow, symbolBits, topBits}
 use Rattle.coder.specs.Symbols.{afterSymbols, byteSpan, plainSpans, staticSpan, staticSpans, symbolsBits}
+use Rattle.coder.specs.Together.{renormalized}
 use Rattle.coder.specs.Writing.{Write, Writer, write, writeFault, writeNumber}
 use Rattle.fields.specs.Limits.{largestFile}
 use Rattle.fields.specs.Numbers.{badState, noRoom, outOfRange}
@@ -22,27 +23,37 @@ pub after-led : (s t u : Coder) (a : Span) (more : List Span) → t ≡ afterSym
 unfolding afterSymbols
 after-led s t u a more e d = rw (d, e)
 
-pub bits-led : (s t : Coder) (a : Span) (more : List Span) (l l′ l″ : List ℕ) → t ≡ afterSymbol s a → l′ ≡ putBits l (s .settled) (symbolBits s a)
-    → l″ ≡ putBits l′ (t .settled) (symbolsBits t more) → l″ ≡ putBits l (s .settled) (symbolsBits s (a ∷ more))
-bits-led s t a more l l′ l″ e put puts = rw (puts, put, e) (all-more s a more l)
+-- the same from the interval that the first symbol narrowed, and the bits put
+pub led-state : (s t : Coder) (a : Span) (more : List Span) → t ≡ narrow s a → afterSymbols (renormalized t) more ≡ afterSymbols s (a ∷ more)
+unfolding afterSymbols afterSymbol
+led-state s t a more e = rw e
+
+pub led-bits : (s t : Coder) (a : Span) (more : List Span) (l : List ℕ) → t ≡ narrow s a
+    → putBits (putBits l (t .settled) (topBits 16 t)) (renormalized t .settled) (symbolsBits (renormalized t) more)
+    ≡ putBits l (s .settled) (symbolsBits s (a ∷ more))
+unfolding afterSymbol symbolBits narrow
+led-bits s t a more l e = rw e (all-more s a more l)
+
+-- a symbol and the plain bytes after it add so many bits at most
+pub led-most : (s : Coder) (a : Span) (n v : ℕ) → let t = afterSymbols s (a ∷ plainSpans n v) in t .settled + t .pending ≤ s .settled + s .pending + 32 * (n + 1)
+led-most s a n v = omega (arith, all-most (a ∷ plainSpans n v) s, plain-length n v)
 
 pub holds : (s : Coder) (l : List ℕ) → length l ≤ largestFile → fits s (length l) ≡ true → Holds l s
 holds s l small e = record { small = small; within = leb-true _ _ e }
 
--- what holds the bits after more symbols holds those before them
-pub led-holds : (t u : Coder) (more : List Span) (l : List ℕ) → u ≡ afterSymbols t more → Holds l u → Holds l t
-led-holds t u more l e h = let h′ : Holds l (afterSymbols t more) = rw (← e) h in omega (arith, all-least more t)
+module _ (w : Writer) (l : List ℕ) (compresses : Bool) (spans : List Span) where
+  abbrev due : Write
+  due = write (roomNumber l (afterSymbols (w .coder) spans)) l w compresses spans
 
-module _ (w : Writer) (l : List ℕ) (compresses : Bool) (spans : List Span) (t : Coder) (next : t ≡ afterSymbols (w .coder) spans) where
-  pub led-refused : fits t (length l) ≡ false → record { number = noRoom; done = false; writer = w; bytes = l } ≡ write (roomNumber l (afterSymbols (w .coder) spans)) l w compresses spans
+  pub led-refused : fits (afterSymbols (w .coder) spans) (length l) ≡ false → record { number = noRoom; done = false; writer = w; bytes = l } ≡ due
   unfolding write
-  led-refused no-room = rw (← next, no-room)
+  led-refused no-room = rw no-room
 
-  pub led-done : (flag : Bool) (l′ l″ : List ℕ) → fits t (length l) ≡ true → l′ ≡ padded l (w .coder .settled)
-      → l″ ≡ putBits l′ (w .coder .settled) (symbolsBits (w .coder) spans) → flag ≡ (w .compressed || compresses)
-      → record { number = 0; done = true; writer = record { coder = t; compressed = flag }; bytes = l″ } ≡ write (roomNumber l (afterSymbols (w .coder) spans)) l w compresses spans
+  pub led-done : (t : Coder) (flag : Bool) (l′ l″ : List ℕ) → fits (afterSymbols (w .coder) spans) (length l) ≡ true → l′ ≡ padded l (w .coder .settled)
+      → t ≡ afterSymbols (w .coder) spans → l″ ≡ putBits l′ (w .coder .settled) (symbolsBits (w .coder) spans) → flag ≡ (w .compressed || compresses)
+      → record { number = 0; done = true; writer = record { coder = t; compressed = flag }; bytes = l″ } ≡ due
   unfolding write storeBits
-  led-done flag l′ l″ fit pad put set = rw (put, pad, set, ← next, fit, next) refl
+  led-done t flag l′ l″ fit pad next put set = rw (put, pad, set, fit, next) refl
 
 -- an answer at no fault is done where there is room
 pub write-told : (room : Bool) (l : List ℕ) (w : Writer) (compresses : Bool) (spans : List Span) → (write (unless room noRoom 0) l w compresses spans) .done ≡ room

@@ -7,7 +7,8 @@ pub mod Windows
 pub mod Carrying
 pub mod Limits
 pub mod Turns
-pub mod Counting
+pub mod Together
+pub mod Stored
 pub mod Sequence
 pub mod Weights
 pub mod Spans

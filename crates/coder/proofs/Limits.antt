@@ -140,6 +140,5 @@ pub holds-put : (bs l : List ℕ) (p : ℕ) {s : Coder} → Holds l s → Holds 
 holds-put bs l p h = omega (arith, length-putBits bs l p)
 
 -- what holds the bits after a symbol holds those that it settles
-pub symbol-holds : (s : Coder) (a : Span) (l : List ℕ) → Holds l (afterSymbol s a) → Holds l (settleTops 16 (narrow s a))
-unfolding afterSymbol
-symbol-holds s a l h = omega (arith, postpone-grown 16 (settleTops 16 (narrow s a)))
+pub turns-hold : (s : Coder) (l : List ℕ) → Holds l (postpones 16 (settleTops 16 s)) → Holds l (settleTops 16 s)
+turns-hold s l h = omega (arith, postpone-grown 16 (settleTops 16 s))

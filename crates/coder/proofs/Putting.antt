@@ -1,12 +1,10 @@
 -- Bits put one by one make the bits put at once, and leave the number of bytes as it is.
-use Prim.Native.Nat.{ℕ, zero, suc, _+_, _*_, _-_, _/_, _%_, _^_, _≤_, _<_}
+use Prim.Native.Nat.{ℕ, zero, suc, _+_, _*_, _≤_}
 use Rattle.coder.specs.Bytes.{putBit, putBits}
-use Rattle.coder.specs.Ending.{bitsOf}
 use lib.ListN.{length, length-set, replicate}
 use mathlib.Core.List.{List, [], _∷_, _++_}
 use mathlib.Core.Path.{_≡_, _∙_, refl}
 use native.Mathlib.Nat.{add-zero, mul-le-mul-right, one-mul}
-use native.Mathlib.Numerals.{add-one}
 use native.Mathlib.Omega.{arith}
 
 -- a bit of weight p adds at most p
@@ -31,25 +29,8 @@ putBits-append (a ∷ xs) bs l p =
     let next : suc p + length xs ≡ p + suc (length xs) = omega arith in
     putBits-append xs bs (putBit l p a) (suc p) ∙ rw next
 
--- one turn of a run of equal bits
-pub run-more : (n : ℕ) (l : List ℕ) (p b : ℕ) → 0 < n → putBits (putBit l p b) (p + 1) (replicate (n - 1) b) ≡ putBits l p (replicate n b)
-unfolding putBits
-run-more zero l p b h = absurd (omega arith)
-run-more (suc n) l p b h = let less : suc n - 1 ≡ n = omega arith in rw (less, add-one)
-
+-- a run of none
 pub run-none : (n : ℕ) (l : List ℕ) (p b : ℕ) → n ≤ 0 → l ≡ putBits l p (replicate n b)
 unfolding putBits
 run-none zero l p b h = refl
 run-none (suc n) l p b h = absurd (omega arith)
-
--- one turn of a number's bits, and their end
-pub bits-more : (n v : ℕ) (l : List ℕ) (p : ℕ) → 0 < n
-    → putBits (putBit l p (v / 2 ^ (n - 1) % 2)) (p + 1) (bitsOf (n - 1) v) ≡ putBits l p (bitsOf n v)
-unfolding putBits bitsOf
-bits-more zero v l p h = absurd (omega arith)
-bits-more (suc n) v l p h = let less : suc n - 1 ≡ n = omega arith in rw (less, add-one)
-
-pub bits-none : (n v : ℕ) (l : List ℕ) (p : ℕ) → n ≤ 0 → l ≡ putBits l p (bitsOf n v)
-unfolding putBits bitsOf
-bits-none zero v l p h = refl
-bits-none (suc n) v l p h = absurd (omega arith)

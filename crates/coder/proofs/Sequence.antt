@@ -1,19 +1,18 @@
 -- Several symbols one after the other: as many bits are settled as they put, and a loop that codes them one by one leaves the state and
 -- the bits of them all.
-use Prim.Native.Nat.{ℕ, zero, suc, _+_, _-_, _/_, _%_, _≤_, _<_}
+use Prim.Native.Nat.{ℕ, zero, suc, _+_, _*_, _-_, _/_, _%_, _≤_, _<_}
 use Rattle.coder.proofs.Limits.{after-grown, postpone-cases, settling-cases}
 use Rattle.coder.proofs.Putting.{putBits-append}
 use Rattle.coder.proofs.Reversal.{reversed-small}
 use Rattle.coder.proofs.Turns.{settled-length}
 use Rattle.coder.specs.Bytes.{putBits}
-use Rattle.coder.specs.Inside.{Holds}
 use Rattle.coder.specs.Interval.{Codable, afterSymbol, narrow, postpone, postpones, settleTop, settleTops, settledBits, symbolBits, topBits}
 use Rattle.coder.specs.Symbols.{afterSymbols, byteSpan, plainSpans, symbolsBits}
 use Rattle.coder.specs.declared.interval.Coder.{Coder}
 use Rattle.coder.specs.declared.interval.Span.{Span}
 use lib.ListN.{length, length-append}
 use mathlib.Core.List.{List, [], _∷_}
-use mathlib.Core.Path.{_≡_, _∙_, refl}
+use mathlib.Core.Path.{_≡_, ap, _∙_, refl}
 use native.Mathlib.Omega.{arith}
 
 -- a byte's symbol can be coded
@@ -59,6 +58,18 @@ unfolding afterSymbols
 all-least [] s = omega arith
 all-least (a ∷ more) s = omega (arith, after-grown s a, all-least more (afterSymbol s a))
 
+-- each symbol adds 32 bits at most
+pub all-most : (symbols : List Span) (s : Coder)
+    → afterSymbols s symbols .settled + afterSymbols s symbols .pending ≤ s .settled + s .pending + 32 * length symbols
+unfolding afterSymbols
+all-most [] s = omega arith
+all-most (a ∷ more) s = omega (arith, after-grown s a, all-most more (afterSymbol s a))
+
+pub plain-length : (n v : ℕ) → length (plainSpans n v) ≡ n
+unfolding plainSpans
+plain-length zero v = refl
+plain-length (suc n) v = ap suc (plain-length n (v / 256))
+
 -- one turn of a plain value, and its end
 pub plain-more : (n v : ℕ) → 0 < n → byteSpan v ∷ plainSpans (n - 1) (v / 256) ≡ plainSpans n v
 unfolding plainSpans
@@ -80,19 +91,6 @@ pub after-plain-none : (n v : ℕ) (s : Coder) → n ≤ 0 → s ≡ afterSymbol
 unfolding afterSymbols
 after-plain-none n v s h = rw (← plain-none n v h)
 
-pub put-plain-more : (n v : ℕ) (s : Coder) (l : List ℕ) → 0 < n
-    → let a = byteSpan v in
-    putBits (putBits l (s .settled) (symbolBits s a)) (afterSymbol s a .settled) (symbolsBits (afterSymbol s a) (plainSpans (n - 1) (v / 256)))
-    ≡ putBits l (s .settled) (symbolsBits s (plainSpans n v))
-put-plain-more n v s l h = rw (← plain-more n v h) (all-more s _ _ l)
-
 pub put-plain-none : (n v : ℕ) (s : Coder) (l : List ℕ) → n ≤ 0 → l ≡ putBits l (s .settled) (symbolsBits s (plainSpans n v))
 unfolding symbolsBits putBits
 put-plain-none n v s l h = rw (← plain-none n v h)
-
--- what holds all the bytes' bits holds the next one's
-pub plain-holds : (n v : ℕ) (s : Coder) (l : List ℕ) → 0 < n → Holds l (afterSymbols s (plainSpans n v)) → Holds l (afterSymbol s (byteSpan v))
-plain-holds n v s l h g =
-    let t : Coder = afterSymbol s (byteSpan v) in
-    let g' : Holds l (afterSymbols t (plainSpans (n - 1) (v / 256))) = rw (after-plain-more n v s h) g in
-    omega (arith, all-least (plainSpans (n - 1) (v / 256)) t)

@@ -105,6 +105,12 @@ taken-refused {n} {m} {s} found some same = go n some ∙ ap (λ (k : ℕ). take
     go zero other = absurd (other refl)
     go (suc k) other = refl
 
+-- a call at no fault gives what it found
+pub taken-got : {n m : ℕ} (s : Coder) (found : Found) → n ≡ 0 → n ≡ m
+    → record { number = 0; done = true; value = found .value; state = found .state } ≡ taken m found s
+unfolding taken
+taken-got s found none same = ap (λ (k : ℕ). taken k found s) (sym none ∙ same)
+
 module _ (look : Bool) (d : List ℕ) (s : Coder) (contextGood rangeGood : Bool) (settled : ℕ) (valueGood : Bool) (fault : ℕ)
     (judged : fault ≡ readFault look d s) where
   pub read-fault : (fault ≡ 0 → ⊥) → fault ≡ readNumber look d s contextGood rangeGood settled valueGood

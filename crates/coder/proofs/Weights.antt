@@ -1,14 +1,15 @@
 -- Sums of weights, one weight at a time: what a loop over them computes, that a symbol's part lies within the total, and which symbol a
 -- place in the total belongs to.
-use Prim.Native.Nat.{ℕ, zero, suc, _+_, _*_, _-_, _/_, _≤_, _<_}
+use Prim.Native.Nat.{ℕ, zero, suc, _+_, _*_, _-_, _/_, _%_, _^_, _≤_, _<_}
 use Rattle.coder.specs.Histogram.{WellFormedHistogram, addAt, halve, spanOf, sum, symbolAt}
 use Rattle.coder.specs.Interval.{Codable}
 use borrow.Author.Tests.{le-ltb, lt-ltb}
+use lib.Bits.{and-le-l, and-le-r, bitAnd, bitOr, or-add-and}
 use lib.ListN.{drop, drop-of-length-le, getD, length, set, take}
 use lib.Seq.{append-snoc, drop-cons, drop-set-lt, take-all, take-suc, take-suc-set}
 use mathlib.Core.List.{List, [], _∷_, _++_, map, append-nil}
 use mathlib.Core.Path.{_≡_, ap, refl}
-use native.Mathlib.Nat.{add-zero}
+use native.Mathlib.Nat.{add-zero, mul-le-mul-left, suc-mul}
 use native.Mathlib.Numerals.{add-one}
 use native.Mathlib.Omega.{arith}
 
@@ -25,6 +26,29 @@ sum-one w = add-zero w
 -- one weight more
 pub sum-more : (l : List ℕ) (i : ℕ) → i < length l → sum (take i l) + getD l i 0 ≡ sum (take (i + 1) l)
 sum-more l i h = rw (add-one, take-suc l i 0 h, sum-append, sum-one)
+
+-- the sum of i weights, modulo 2^32, and at most i times a number that has all their bits
+pub record Summed (l : List ℕ) (i bits low : ℕ) : Type 0 where
+  pub same : low ≡ sum (take i l) % 2 ^ 32
+  pub most : sum (take i l) ≤ i * bits
+
+pub summed-more : (l : List ℕ) (i bits low : ℕ) → i < length l → Summed l i bits low
+    → let w = getD l i 0 in Summed l (i + 1) (bitOr bits w) ((low + w) % 2 ^ 32)
+summed-more l i bits low h s =
+    let w : ℕ = getD l i 0 in
+    let both : ℕ = bitOr bits w in
+    let total : sum (take i l) + w ≡ sum (take (i + 1) l) = sum-more l i h in
+    let split : both + bitAnd bits w ≡ bits + w = or-add-and bits w in
+    let bits-le : bits ≤ both = omega (arith, and-le-r bits w) in
+    let w-le : w ≤ both = omega (arith, and-le-l bits w) in
+    let most : i * bits ≤ i * both = mul-le-mul-left i bits-le in
+    let next : (i + 1) * both ≡ i * both + both = rw (add-one i, suc-mul i both) in
+    record { same = omega (arith, s .same); most = omega (arith, s .most) }
+
+pub summed-all : (l : List ℕ) (n bits low : ℕ) → length l ≤ n → Summed l n bits low → (low ≡ sum l % 2 ^ 32) × (sum l ≤ n * bits)
+summed-all l n bits low h s =
+    let all : sum (take n l) ≡ sum l = ap sum (take-all n l h) in
+    (rw (← all) (s .same), rw (← all) (s .most))
 
 -- one weight more is halved
 pub halve-more : (l : List ℕ) (i : ℕ) → i < length l

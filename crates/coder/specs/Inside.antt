@@ -1,20 +1,20 @@
 -- What the private functions ask of one another.
-use Prim.Native.Nat.{ℕ, zero, suc, _+_, _*_, _-_, _/_, _^_, _≤_, _<_}
+use Prim.Native.Nat.{ℕ, zero, suc, _+_, _*_, _-_, _^_, _≤_, _<_}
 use Rattle.coder.specs.Bytes.{bitAt}
 use Rattle.coder.specs.Forms.{fits, limitsFormed, unless}
 use Rattle.coder.specs.Histogram.{Histogram, addAt, escaped, histogramFormed, largestTotal, spanIn, spanOf, sum, values}
 use Rattle.coder.specs.Interval.{Codable, Coder, Span, WellFormed, afterSymbol, code, largestRange}
 use Rattle.coder.specs.Stream.{Stream}
-use Rattle.coder.specs.Symbols.{afterSymbols}
+use Rattle.coder.specs.Symbols.{afterSymbols, reversed}
 use Rattle.coder.specs.Totals.{Counted, countedAs, quickSymbol}
 use Rattle.coder.specs.Values.{Found, nextSymbol, readAfter, readDynamic}
 use Rattle.coder.specs.Writing.{End, Write, Writer, endAs, write}
 use Rattle.fields.specs.Limits.{largestFile}
 use Rattle.fields.specs.Numbers.{badState, noRoom, outOfRange, overLimit, truncated}
 use lib.Dec.{eqb, leb, ltb}
-use lib.ListN.{length, take}
+use lib.ListN.{getD, length, take}
 use mathlib.Core.Bool.{Bool, true, false, _&&_}
-use mathlib.Core.List.{List}
+use mathlib.Core.List.{List, [], _∷_}
 use mathlib.Core.Path.{_≡_}
 
 -- n more bits can be counted
@@ -28,15 +28,22 @@ pub record Divisible (range weight total : ℕ) : Type 0 where
   pub some : 1 ≤ total
   pub small : total ≤ largestRange
 
--- both limits are in the quarters next to the middle
-pub record Straddles (s : Coder) : Type 0 where
-  pub low-next : s .low / 0x4000 ≡ 1
-  pub high-next : s .high / 0x4000 ≡ 2
-
 -- the bytes are not too many, and hold the settled and the pending bits
 pub record Holds (bytes : List ℕ) (s : Coder) : Type 0 where
   pub small : length bytes ≤ largestFile
   pub within : s .settled + s .pending ≤ 8 * length bytes
+
+-- n bytes from i on, each with its bits in reverse order; and all of them
+abbrev pub reversedFrom : ℕ → ℕ → List ℕ
+reversedFrom i zero = []
+reversedFrom i (suc n) = reversed 8 i ∷ reversedFrom (suc i) n
+
+unfoldable pub reversedBytes : List ℕ
+reversedBytes = reversedFrom 0 256
+
+-- the number that three bytes make, the first of them the lowest; zeros past the end
+abbrev pub threeAt : List ℕ → ℕ → ℕ
+threeAt l i = getD l i 0 + 0x100 * getD l (i + 1) 0 + 0x10000 * getD l (i + 2) 0
 
 -- a reader's state between two symbols, whatever the bits are that it passed over
 pub record Reading (s : Coder) (x : Stream) : Type 0 where

@@ -25,6 +25,7 @@ use crate::interval::Coder;
 use crate::interval::Span;
 use crate::read::Found;
 use crate::read::Read;
+use crate::write::U32_BYTES;
 use crate::write::Writer;
 use crate::write::Written;
 use fields::numbers::BAD_STATE;
@@ -48,7 +49,7 @@ fn bytes_after(symbol: usize) -> u32
     ensures { λ r. ⌜ r ≤ 4 ⌝ }
 {
     if symbol == 0 {
-        return 4;
+        return U32_BYTES;
     }
     0
 }
@@ -165,7 +166,7 @@ impl Coder {
                 index,
             );
         }
-        let found = state.plain_u32(bytes);
+        let found = state.plain_value(bytes, state.code(bytes), U32_BYTES);
         let next = found.state;
         self.counted(bytes.len(), found.value, next, frequencies, total, index)
     }

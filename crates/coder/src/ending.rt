@@ -1,17 +1,14 @@
 // The end of a coded run (10.4.10).
 ghost use Rattle.fields.specs.Limits.{largestFile};
 ghost use mathlib.Core.Path.{_≡_};
-ghost use Prim.Native.Nat.{_+_, _*_, _<_, _≤_};
-ghost use lib.ListN.{length};
-ghost use Rattle.coder.specs.Bytes.{bytesOf, putBits};
-ghost use Rattle.coder.specs.Ending.{bitsOf, lowBits, lowState};
+ghost use Prim.Native.Nat.{_+_, _*_, _≤_};
+ghost use Rattle.coder.specs.Bytes.{bytesOf};
+ghost use Rattle.coder.specs.Ending.{lowBits, lowState};
 ghost use Rattle.coder.specs.Inside.{Holds, endRoom};
 ghost use Rattle.coder.specs.Interval.{WellFormed};
 ghost use Rattle.coder.specs.Symbols.{afterSymbols, plainSpans, symbolsBits};
 ghost use Rattle.coder.specs.Writing.{end, endedGiven};
-use crate::bits::bit_of;
 use crate::bits::pad;
-use crate::bits::put_bit;
 use crate::interval::Coder;
 use crate::write::Writer;
 use crate::write::Written;
@@ -22,20 +19,6 @@ use fields::numbers::NO_ROOM;
 pub enum Ended {
     Done(usize, Writer),
     Refused(u32, Writer),
-}
-
-// Puts the fifteen low bits of a number from a place on, the highest first.
-fn put_word(buf: &mut [u8], from: u64, value: u32)
-    requires { ⌜ (length (now buf) ≤ largestFile) × (from + 15 ≤ 8 * length (now buf)) ⌝ }
-    ensures { λ _. ⌜ now (buf .exit) ≡ putBits (now (buf .entry)) from (bitsOf 15 value) ⌝ }
-{
-    let mut at = from;
-    let mut left = 15;
-    while 0 < left {
-        left -= 1;
-        put_bit(&mut *buf, at, bit_of(value, left));
-        at += 1;
-    }
 }
 
 // The bytes that so many bits take.
@@ -73,8 +56,7 @@ impl Writer {
             return Ended::Refused(NO_ROOM, self);
         }
         pad(&mut *buf, start.settled);
-        start.put_top(&mut *buf);
-        put_word(&mut *buf, start.settled + 1 + start.pending, start.low);
+        start.put_tops(16, &mut *buf);
         Ended::Done(
             bytes_of(next.settled),
             Writer {

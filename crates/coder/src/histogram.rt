@@ -1,12 +1,13 @@
 // The frequencies of a dynamic context: the escape symbol's first, then those of the values 0 to 255 (10.4.3, 10.4.9).
 ghost use mathlib.Core.Path.{_≡_};
 ghost use mathlib.Core.List.{map};
-ghost use Prim.Native.Nat.{_+_, _<_, _≤_};
+ghost use Prim.Native.Nat.{_+_, _*_, _%_, _^_, _<_, _≤_};
 ghost use lib.ListN.{length, take};
 ghost use Rattle.coder.specs.Histogram.{freshHistogram, sum, symbolAt, halve, thinned, raised, spanOf, histogramFormed, WellFormedHistogram, symbols, values};
 ghost use Rattle.coder.specs.Values.{symbolAfter};
 use crate::interval::Coder;
 use crate::interval::Span;
+use std::num::wrapping_add_u32;
 
 // The escape symbol and one for each value.
 pub const SYMBOLS: usize = 257;
@@ -43,11 +44,41 @@ fn sum_before(h: &[u32], count: usize) -> u64
     total
 }
 
+// All frequencies, their bits put together, and their sum in 32 bits.
+struct Sums {
+    bits: u32,
+    low: u32,
+}
+
+// The bits and the sum in one pass over narrow numbers.
+fn sums_of(h: &[u32]) -> Sums
+    requires { ⌜ length (now h) ≡ symbols ⌝ }
+    ensures { λ r. ⌜ (r .low ≡ sum (now (h .entry)) % 2 ^ 32) × (sum (now (h .entry)) ≤ symbols * r .bits) ⌝ }
+{
+    let mut bits: u32 = 0;
+    let mut low: u32 = 0;
+    let mut i = 0;
+    while i < SYMBOLS {
+        let frequency = h[i];
+        bits = bits | frequency;
+        low = wrapping_add_u32(low, frequency);
+        i += 1;
+    }
+    Sums { bits, low }
+}
+
+// Frequencies below this have a sum below 2^32.
+const NARROW: u32 = 0x800000;
+
 // The sum of all frequencies.
 pub(crate) fn total_of(h: &[u32]) -> u64
     requires { ⌜ length (now h) ≡ symbols ⌝ }
     ensures { λ r. ⌜ r ≡ sum (now (h .entry)) ⌝ }
 {
+    let sums = sums_of(h);
+    if sums.bits < NARROW {
+        return wide(sums.low);
+    }
     sum_before(h, SYMBOLS)
 }
 

@@ -4,10 +4,13 @@ ghost use mathlib.Core.Path.{_≡_};
 ghost use Prim.Native.Nat.{_+_, _*_, _/_, _<_, _≤_};
 ghost use lib.ListN.{length};
 ghost use Rattle.coder.specs.Bytes.{putBits};
-ghost use Rattle.coder.specs.Interval.{fresh, narrow, settleTop, settleTops, settledBits, topBits, postpone, postpones, afterSymbol, symbolBits, WellFormed, Codable};
-ghost use Rattle.coder.specs.Inside.{Room, Divisible, Straddles, Holds};
-use crate::bits::put_bit;
+ghost use Rattle.coder.specs.Interval.{fresh, narrow, settleTops, topBits, postpones, afterSymbol, WellFormed, Codable};
+ghost use Rattle.coder.specs.Inside.{Room, Divisible, Holds};
+ghost use Rattle.coder.specs.Together.{Agreeing, Straddling, leadBits, postponedBy, renormalized, settledBy};
+use crate::bits::put_part;
 use crate::bits::put_run;
+use crate::bits::put_up;
+use crate::reverse::reversed_word;
 
 // The limits, the bits that wait for the next settled one, and the count of settled bits.
 pub struct Coder {
@@ -33,6 +36,22 @@ fn part(range: u32, weight: u32, total: u32) -> u32
     range * weight / total
 }
 
+// How many bits of two limits agree, from the top of their 16 bits on.
+fn agreeing(low: u32, high: u32) -> u32
+    requires { ⌜ (low ≤ 0xFFFF) × (high ≤ 0xFFFF) ⌝ }
+    ensures { λ r. ⌜ Agreeing r low high ⌝ }
+{
+    u32::leading_zeros(low ^ high) - 16
+}
+
+// How many bits below the top ones low has 1 and high 0 in: the leading zeros that both distances from the middle have.
+fn straddling(low: u32, high: u32) -> u32
+    requires { ⌜ (low < 0x8000) × ((0x8000 ≤ high) × (high ≤ 0xFFFF)) ⌝ }
+    ensures { λ r. ⌜ Straddling r low high ⌝ }
+{
+    u32::leading_zeros((0x7FFF - low) | (high - 0x8000)) - 17
+}
+
 impl Coder {
     // The high limit of a fresh state.
     pub const HIGH_LIMIT: u32 = 0xFFFF;
@@ -52,7 +71,7 @@ impl Coder {
         }
     }
 
-    fn narrowed(self, span: Span) -> Coder
+    pub(crate) fn narrowed(self, span: Span) -> Coder
         requires { ⌜ WellFormed self ⌝ }
         requires { ⌜ Codable span ⌝ }
         ensures { λ r. ⌜ r ≡ narrow self span ⌝ }
@@ -66,15 +85,20 @@ impl Coder {
         }
     }
 
-    fn top_settled(self) -> Coder
-        requires { ⌜ Room 1 self ⌝ }
-        ensures { λ r. ⌜ r ≡ settleTop self ⌝ }
+    // n turns that settle top bits, at once.
+    fn settled_by(self, n: u32) -> Coder
+        requires { ⌜ Room 16 self ⌝ }
+        requires { ⌜ (self .low ≤ 0xFFFF) × (self .high ≤ 0xFFFF) × (n ≤ 16) ⌝ }
+        ensures { λ r. ⌜ r ≡ settledBy n self ⌝ }
     {
+        if n == 0 {
+            return self;
+        }
         Coder {
-            low: 2 * (self.low % 0x8000),
-            high: 2 * (self.high % 0x8000) + 1,
+            low: (self.low << n) % 0x10000,
+            high: (self.high << n) % 0x10000 + ((1 << n) - 1),
             pending: 0,
-            settled: self.settled + 1 + self.pending,
+            settled: self.settled + n as u64 + self.pending,
         }
     }
 
@@ -83,22 +107,20 @@ impl Coder {
         requires { ⌜ (self .low ≤ self .high) × (self .high ≤ 0xFFFF) ⌝ }
         ensures { λ r. ⌜ r ≡ settleTops 16 self ⌝ }
     {
-        let mut s = self;
-        while s.low / 0x8000 == s.high / 0x8000 {
-            s = s.top_settled();
-        }
-        s
+        self.settled_by(agreeing(self.low, self.high))
     }
 
-    fn postponed(self) -> Coder
-        requires { ⌜ Room 1 self ⌝ }
-        requires { ⌜ Straddles self ⌝ }
-        ensures { λ r. ⌜ r ≡ postpone self ⌝ }
+    // n turns that postpone, at once.
+    fn postponed_by(self, n: u32) -> Coder
+        requires { ⌜ Room 16 self ⌝ }
+        requires { ⌜ (self .low < 0x8000) × ((0x8000 ≤ self .high) × (self .high ≤ 0xFFFF)) ⌝ }
+        requires { ⌜ Straddling n (self .low) (self .high) ⌝ }
+        ensures { λ r. ⌜ r ≡ postponedBy n self ⌝ }
     {
         Coder {
-            low: 2 * (self.low - 0x4000),
-            high: 2 * (self.high - 0x4000) + 1,
-            pending: self.pending + 1,
+            low: 0x8000 - ((0x8000 - self.low) << n),
+            high: 0x7FFF + ((self.high - 0x7FFF) << n),
+            pending: self.pending + n as u64,
             settled: self.settled,
         }
     }
@@ -108,14 +130,20 @@ impl Coder {
         requires { ⌜ (self .low < 0x8000) × ((0x8000 ≤ self .high) × (self .high ≤ 0xFFFF)) ⌝ }
         ensures { λ r. ⌜ r ≡ postpones 16 self ⌝ }
     {
-        let mut s = self;
-        while s.low / 0x4000 == 1 {
-            if s.high / 0x4000 != 2 {
-                return s;
-            }
-            s = s.postponed();
+        self.postponed_by(straddling(self.low, self.high))
+    }
+
+    // The state once the top bits that agree are settled and those that straddle the middle are postponed. An interval of more than half
+    // the whole has neither.
+    fn renormalized(self) -> Coder
+        requires { ⌜ Room 32 self ⌝ }
+        requires { ⌜ (self .low ≤ self .high) × (self .high ≤ 0xFFFF) ⌝ }
+        ensures { λ r. ⌜ r ≡ renormalized self ⌝ }
+    {
+        if self.high - self.low >= 0x8000 {
+            return self;
         }
-        s
+        self.tops_settled().all_postponed()
     }
 
     // The state after a symbol.
@@ -125,40 +153,34 @@ impl Coder {
         requires { ⌜ Codable span ⌝ }
         ensures { λ r. ⌜ r ≡ afterSymbol self span ⌝ }
     {
-        self.narrowed(span).tops_settled().all_postponed()
+        self.narrowed(span).renormalized()
     }
 
-    // Puts the top bit and the pending ones inverted.
-    pub(crate) fn put_top(self, buf: &mut [u8])
-        requires { ⌜ length (now buf) ≤ largestFile ⌝ }
-        requires { ⌜ (self .settled + 1 + self .pending ≤ 8 * length (now buf)) × (self .low ≤ 0xFFFF) ⌝ }
-        ensures { λ _. ⌜ now (buf .exit) ≡ putBits (now (buf .entry)) (self .settled) (settledBits self) ⌝ }
+    // Puts the n top bits of low, the pending ones inverted after the first of them.
+    pub(crate) fn put_tops(self, n: u32, buf: &mut [u8])
+        requires { ⌜ (self .low ≤ 0xFFFF) × (n ≤ 16) ⌝ }
+        requires { ⌜ (length (now buf) ≤ largestFile) × (self .settled + n + self .pending ≤ 8 * length (now buf)) ⌝ }
+        ensures { λ _. ⌜ now (buf .exit) ≡ putBits (now (buf .entry)) (self .settled) (leadBits n self) ⌝ }
     {
+        if n == 0 {
+            return;
+        }
         let top = self.low / 0x8000;
-        put_bit(&mut *buf, self.settled, top);
+        let after = self.settled + 1 + self.pending;
+        put_part(&mut *buf, self.settled, 1, top);
         put_run(&mut *buf, self.settled + 1, 1 - top, self.pending);
+        put_up(&mut *buf, after, n as u64 - 1, reversed_word(self.low) / 2);
     }
 
-    // Puts the bits that settle while the top bits agree.
-    fn put_tops(self, buf: &mut [u8])
+    // As renormalized; the bits that settle are put.
+    pub(crate) fn put_renormalized(self, buf: &mut [u8]) -> Coder
         requires { ⌜ (self .low ≤ self .high) × (self .high ≤ 0xFFFF) ⌝ }
-        requires { ⌜ Holds (now buf) (settleTops 16 self) ⌝ }
+        requires { ⌜ Holds (now buf) (renormalized self) ⌝ }
+        ensures { λ r. ⌜ r ≡ renormalized self ⌝ }
         ensures { λ _. ⌜ now (buf .exit) ≡ putBits (now (buf .entry)) (self .settled) (topBits 16 self) ⌝ }
     {
-        let mut s = self;
-        while s.low / 0x8000 == s.high / 0x8000 {
-            s.put_top(&mut *buf);
-            s = s.top_settled();
-        }
-    }
-
-    // Puts the bits that a symbol settles.
-    pub(crate) fn put_symbol(self, span: Span, buf: &mut [u8])
-        requires { ⌜ WellFormed self ⌝ }
-        requires { ⌜ Codable span ⌝ }
-        requires { ⌜ Holds (now buf) (afterSymbol self span) ⌝ }
-        ensures { λ _. ⌜ now (buf .exit) ≡ putBits (now (buf .entry)) (self .settled) (symbolBits self span) ⌝ }
-    {
-        self.narrowed(span).put_tops(buf);
+        let n = agreeing(self.low, self.high);
+        self.put_tops(n, buf);
+        self.settled_by(n).all_postponed()
     }
 }

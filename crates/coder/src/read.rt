@@ -16,7 +16,10 @@ use crate::bits::bit_at;
 use crate::bits::word_at;
 use crate::interval::Coder;
 use crate::reverse::reversed;
+use crate::reverse::reversed_bytes;
+use crate::write::U32_BYTES;
 use crate::write::Width;
+use crate::write::bytes_in;
 use crate::write::static_span;
 use fields::limits::LARGEST_FILE;
 use fields::numbers::BAD_STATE;
@@ -69,7 +72,7 @@ fn is_run(bytes: &[u8], from: u64, count: u64, bit: u32) -> bool
 
 impl Coder {
     // The number that is compared with the limits: the next bit, and the fifteen after the pending ones.
-    fn code(self, bytes: &[u8]) -> u32
+    pub(crate) fn code(self, bytes: &[u8]) -> u32
         requires { ⌜ self .settled + self .pending < 2 ^ 33 + 256 ⌝ }
         ensures { λ r. ⌜ r ≡ code self (bitAt (now (bytes .entry))) ⌝ }
     {
@@ -99,46 +102,43 @@ impl Coder {
         }
     }
 
-    fn plain_u8(self, bytes: &[u8]) -> Found
-        requires { ⌜ Reading self (bitAt (now bytes)) ⌝ }
-        requires { ⌜ self .settled + self .pending < 2 ^ 33 + 256 ⌝ }
-        ensures { λ r. ⌜ r ≡ readPlain 1 (bitAt (now (bytes .entry))) self ⌝ }
-        ensures { λ r. ⌜ Stepped 0x100 (bitAt (now (bytes .entry))) self r 32 ⌝ }
+    // A plain value of count bytes, to whose first symbol the number points.
+    pub(crate) fn plain_value(self, bytes: &[u8], first: u32, count: u32) -> Found
+        requires { ⌜ Reading self (bitAt (now bytes)) × (first ≡ code self (bitAt (now bytes))) ⌝ }
+        requires { ⌜ (self .settled + self .pending < 2 ^ 33 + 32) × (1 ≤ count) × (count ≤ 4) ⌝ }
+        ensures { λ r. ⌜ r ≡ readPlain count (bitAt (now (bytes .entry))) self ⌝ }
     {
-        let symbol = self.symbol_value(bytes, self.code(bytes), 256);
-        let state = symbol.state;
-        Found {
-            value: reversed(symbol.value as u8) as u32,
-            state,
+        let table = reversed_bytes();
+        let mut s = self;
+        let mut number = first;
+        let mut value: u64 = 0;
+        let mut place: u64 = 1;
+        let mut left = count;
+        loop {
+            let symbol = s.target(number, 256);
+            value += place * reversed(&table, symbol) as u64;
+            s = s.after(static_span(256, symbol));
+            left -= 1;
+            if left == 0 {
+                return Found {
+                    value: value as u32,
+                    state: s,
+                };
+            }
+            place = place * 256;
+            number = s.code(bytes);
         }
     }
 
-    fn plain_u16(self, bytes: &[u8]) -> Found
-        requires { ⌜ Reading self (bitAt (now bytes)) ⌝ }
-        requires { ⌜ self .settled + self .pending < 2 ^ 33 + 128 ⌝ }
-        ensures { λ r. ⌜ r ≡ readPlain 2 (bitAt (now (bytes .entry))) self ⌝ }
-        ensures { λ r. ⌜ Stepped 0x10000 (bitAt (now (bytes .entry))) self r 64 ⌝ }
+    // The same state, field by field: where it is copied whole, the processor waits for fields that were just stored apart.
+    fn copied(self) -> Coder
+        ensures { λ r. ⌜ r ≡ self ⌝ }
     {
-        let low = self.plain_u8(bytes);
-        let high = low.state.plain_u8(bytes);
-        let state = high.state;
-        Found {
-            value: low.value + 0x100 * high.value,
-            state,
-        }
-    }
-
-    pub(crate) fn plain_u32(self, bytes: &[u8]) -> Found
-        requires { ⌜ Reading self (bitAt (now bytes)) ⌝ }
-        requires { ⌜ self .settled + self .pending < 2 ^ 33 + 64 ⌝ }
-        ensures { λ r. ⌜ r ≡ readPlain 4 (bitAt (now (bytes .entry))) self ⌝ }
-    {
-        let low = self.plain_u16(bytes);
-        let high = low.state.plain_u16(bytes);
-        let state = high.state;
-        Found {
-            value: low.value + 0x10000 * high.value,
-            state,
+        Coder {
+            low: self.low,
+            high: self.high,
+            pending: self.pending,
+            settled: self.settled,
         }
     }
 
@@ -210,17 +210,29 @@ impl Coder {
         Start { fault: 0, number }
     }
 
-    // The answer where a value was found in data of len bytes: it is refused where its settled bits pass their end. Value and state come
-    // apart, since a struct of both would be copied once more at every number.
+    // What is wrong with a value after which the state is this: its settled bits pass the end of data of len bytes, or it is not good.
+    pub(crate) fn value_fault(self, len: usize, good: bool) -> u32
+        requires { ⌜ len ≤ largestFile ⌝ }
+        ensures { λ r. ⌜ r ≡ valueNumber len (foundAs 0 self) good ⌝ }
+    {
+        if self.settled > 8 * len as u64 {
+            return TRUNCATED;
+        }
+        if !good {
+            return OUT_OF_RANGE;
+        }
+        0
+    }
+
+    // The answer where a value was found in data of len bytes. Value and state come apart, since a struct of both would be copied once
+    // more at every number.
     pub(crate) fn accepted(self, len: usize, value: u32, next: Coder, good: bool) -> Read
         requires { ⌜ len ≤ largestFile ⌝ }
         ensures { λ r. ⌜ readGiven r ≡ taken (valueNumber len (foundAs value next) good) (foundAs value next) self ⌝ }
     {
-        if next.settled > 8 * len as u64 {
-            return Read::Refused(TRUNCATED, self);
-        }
-        if !good {
-            return Read::Refused(OUT_OF_RANGE, self);
+        let fault = next.value_fault(len, good);
+        if fault != 0 {
+            return Read::Refused(fault, self);
         }
         Read::Got(value, next)
     }
@@ -234,19 +246,7 @@ impl Coder {
         if range <= Coder::LARGEST_RANGE {
             return self.symbol_value(bytes, number, range);
         }
-        self.plain_u32(bytes)
-    }
-
-    fn plain_value(self, bytes: &[u8], width: Width) -> Found
-        requires { ⌜ Reading self (bitAt (now bytes)) ⌝ }
-        requires { ⌜ self .settled + self .pending < 2 ^ 33 ⌝ }
-        ensures { λ r. ⌜ r ≡ readPlain (bytesIn width) (bitAt (now (bytes .entry))) self ⌝ }
-    {
-        match width {
-            Width::U8 => self.plain_u8(bytes),
-            Width::U16 => self.plain_u16(bytes),
-            Width::U32 => self.plain_u32(bytes),
-        }
+        self.plain_value(bytes, number, U32_BYTES)
     }
 
     fn judged_plain(self, bytes: &[u8], look: bool, width: Width) -> Read
@@ -259,9 +259,14 @@ impl Coder {
         if !self.looked(bytes, look) {
             return Read::Refused(BAD_STATE, self);
         }
-        let found = self.plain_value(bytes, width);
+        let found = self.copied()
+            .plain_value(bytes, start.number, bytes_in(width));
         let next = found.state;
-        self.accepted(bytes.len(), found.value, next, true)
+        let fault = next.value_fault(bytes.len(), true);
+        if fault != 0 {
+            return Read::Refused(fault, self);
+        }
+        Read::Got(found.value, next)
     }
 
     // Reads a plain value.
@@ -294,7 +299,11 @@ impl Coder {
         }
         let found = self.static_value(bytes, start.number, range);
         let next = found.state;
-        self.accepted(bytes.len(), found.value, next, found.value < range)
+        let fault = next.value_fault(bytes.len(), found.value < range);
+        if fault != 0 {
+            return Read::Refused(fault, self);
+        }
+        Read::Got(found.value, next)
     }
 
     // The same for a state that the reader made on the same data: its pending bits are not judged again. Runs of numbers spend their time
@@ -314,7 +323,7 @@ impl Coder {
             let next = self.after(static_span(range, value));
             return self.accepted(bytes.len(), value, next, value < range);
         }
-        let found = self.plain_u32(bytes);
+        let found = self.plain_value(bytes, start.number, U32_BYTES);
         let next = found.state;
         self.accepted(bytes.len(), found.value, next, found.value < range)
     }

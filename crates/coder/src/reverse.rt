@@ -1,6 +1,7 @@
-// A byte with its eight bits in reverse order, from a table.
+// Bits in reverse order: a byte's from a table, or by arithmetic.
 ghost use mathlib.Core.Path.{_≡_};
-ghost use Prim.Native.Nat.{_+_, _*_, _/_, _%_, _<_};
+ghost use Prim.Native.Nat.{_<_};
+ghost use Rattle.coder.specs.Inside.{reversedBytes};
 ghost use Rattle.coder.specs.Symbols.{reversed};
 
 const REVERSED: [u8; 256] = [
@@ -262,32 +263,38 @@ const REVERSED: [u8; 256] = [
     0xFF,
 ];
 
-pub(crate) fn reversed(b: u8) -> u8
-    ensures { λ r. ⌜ r ≡ reversed 8 b ⌝ }
+// The table, which is built on the stack: once for all the bytes of a value.
+pub(crate) fn reversed_bytes() -> [u8; 256]
+    ensures { λ r. ⌜ r ≡ reversedBytes ⌝ }
 {
-    REVERSED[b as usize]
+    REVERSED
 }
 
-// A byte with its bits in reverse order, by arithmetic: at every number that is read, the table would be copied to the stack first.
-fn reversed_byte(v: u32) -> u32
-    ensures { λ r. ⌜ (r ≡ reversed 8 v) × (r < 0x100) ⌝ }
+// A byte's entry.
+pub(crate) fn reversed(table: &[u8], b: u32) -> u32
+    requires { ⌜ (now table ≡ reversedBytes) × (b < 256) ⌝ }
+    ensures { λ r. ⌜ r ≡ reversed 8 b ⌝ }
+    ensures { λ r. ⌜ r < 256 ⌝ }
 {
-    let a = v / 2;
-    let b = a / 2;
-    let c = b / 2;
-    let d = c / 2;
-    let e = d / 2;
-    let f = e / 2;
-    let g = f / 2;
-    v % 2 * 128
-        + (a % 2 * 64
-            + (b % 2 * 32 + (c % 2 * 16 + (d % 2 * 8 + (e % 2 * 4 + (f % 2 * 2 + g % 2))))))
+    table[b as usize] as u32
+}
+
+// A byte with its bits in reverse order, by arithmetic, where a table would be built for each: pairs of bits, of pairs and of halves change
+// places.
+pub(crate) fn reversed_byte(v: u32) -> u32
+    requires { ⌜ v < 256 ⌝ }
+    ensures { λ r. ⌜ (r ≡ reversed 8 v) × (r < 256) ⌝ }
+{
+    let pairs = (v & 0x55) * 2 + (v / 2 & 0x55);
+    let fours = (pairs & 0x33) * 4 + (pairs / 4 & 0x33);
+    fours % 16 * 16 + fours / 16
 }
 
 // Sixteen bits in reverse order.
 pub(crate) fn reversed_word(v: u32) -> u32
     requires { ⌜ v < 0x10000 ⌝ }
-    ensures { λ r. ⌜ r ≡ reversed 8 (v % 256) * 256 + reversed 8 (v / 256) ⌝ }
+    ensures { λ r. ⌜ r ≡ reversed 16 v ⌝ }
+    ensures { λ r. ⌜ r < 0x10000 ⌝ }
 {
     reversed_byte(v % 256) * 256 + reversed_byte(v / 256)
 }

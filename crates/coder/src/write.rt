@@ -8,17 +8,23 @@ ghost use Rattle.coder.specs.Bytes.{putBits};
 ghost use Rattle.coder.specs.Forms.{fits, limitsFormed};
 ghost use Rattle.coder.specs.Inside.{Holds, Room, writeRoom};
 ghost use Rattle.coder.specs.Interval.{Codable, WellFormed};
-ghost use Rattle.coder.specs.Symbols.{afterSymbols, byteSpan, plainSpans, staticSpan, symbolsBits};
+ghost use Rattle.coder.specs.Symbols.{afterSymbols, byteSpan, plainSpans, staticSpan, staticSpans, symbolsBits};
 ghost use Rattle.coder.specs.Writing.{bytesIn, freshWriter, writeFault, writePlain, writeStatic, writtenGiven};
 use crate::bits::pad;
 use crate::interval::Coder;
 use crate::interval::Span;
-use crate::reverse::reversed;
+use crate::reverse::reversed_byte;
 use fields::limits::LARGEST_FILE;
 use fields::numbers::BAD_STATE;
 use fields::numbers::NO_ROOM;
 use fields::numbers::OUT_OF_RANGE;
 use fields::numbers::OVER_LIMIT;
+
+// The bytes of a plain U32.
+pub(crate) const U32_BYTES: u32 = 4;
+
+// The most bits that a symbol and a plain U32 after it add to the settled and the pending ones.
+const MOST_BITS: u64 = 160;
 
 // A writer's state, and whether a compressed value was written.
 pub struct Writer {
@@ -59,14 +65,14 @@ fn largest_in(width: Width) -> u32
     }
 }
 
-// The bytes of a plain value after its first.
-fn more_bytes(width: Width) -> u32
-    ensures { λ r. ⌜ (r + 1 ≡ bytesIn width) × (r ≤ 3) ⌝ }
+// The bytes of a plain value.
+pub(crate) fn bytes_in(width: Width) -> u32
+    ensures { λ r. ⌜ (r ≡ bytesIn width) × (1 ≤ r) × (r ≤ 4) ⌝ }
 {
     match width {
-        Width::U8 => 0,
-        Width::U16 => 1,
-        Width::U32 => 3,
+        Width::U8 => 1,
+        Width::U16 => 2,
+        Width::U32 => U32_BYTES,
     }
 }
 
@@ -85,7 +91,33 @@ pub(crate) fn static_span(range: u32, value: u32) -> Span
 pub(crate) fn byte_span(value: u32) -> Span
     ensures { λ r. ⌜ r ≡ byteSpan value ⌝ }
 {
-    static_span(256, reversed((value % 256) as u8) as u32)
+    static_span(256, reversed_byte(value % 256))
+}
+
+// A value's first symbol, and the plain bytes after it: so many low bytes of the rest.
+struct Lead {
+    span: Span,
+    rest: u32,
+    count: u32,
+}
+
+// A value in a static range: one symbol, or a plain U32 where the range is too large.
+fn static_lead(range: u32, value: u32) -> Lead
+    ensures { λ r. ⌜ r .span ∷ plainSpans (r .count) (r .rest) ≡ staticSpans range value ⌝ }
+    ensures { λ r. ⌜ (value < range → Codable (r .span)) × (r .count ≤ 4) ⌝ }
+{
+    if range <= Coder::LARGEST_RANGE {
+        return Lead {
+            span: static_span(range, value),
+            rest: 0,
+            count: 0,
+        };
+    }
+    Lead {
+        span: byte_span(value),
+        rest: value / 256,
+        count: 3,
+    }
 }
 
 impl Coder {
@@ -121,19 +153,22 @@ impl Coder {
         s
     }
 
-    // Puts the bits that the count low bytes of a plain value settle.
-    fn put_plain(self, value: u32, count: u32, buf: &mut [u8])
-        requires { ⌜ WellFormed self ⌝ }
-        requires { ⌜ Holds (now buf) (afterSymbols self (plainSpans count value)) ⌝ }
-        ensures { λ _. ⌜ now (buf .exit) ≡ putBits (now (buf .entry)) (self .settled) (symbolsBits self (plainSpans count value)) ⌝ }
+    // Puts the bits of a symbol and of the count low bytes of a plain value; the state after them.
+    fn put_led(self, span: Span, value: u32, count: u32, buf: &mut [u8]) -> Coder
+        requires { ⌜ WellFormed self × Codable span × (count ≤ 4) ⌝ }
+        requires { ⌜ Holds (now buf) (afterSymbols self (span ∷ plainSpans count value)) ⌝ }
+        ensures { λ r. ⌜ r ≡ afterSymbols self (span ∷ plainSpans count value) ⌝ }
+        ensures { λ _. ⌜ now (buf .exit) ≡ putBits (now (buf .entry)) (self .settled) (symbolsBits self (span ∷ plainSpans count value)) ⌝ }
     {
-        let mut s = self;
+        let mut s = self.narrowed(span);
         let mut rest = value;
         let mut left = count;
-        while 0 < left {
-            let span = byte_span(rest);
-            s.put_symbol(span, &mut *buf);
-            s = s.after(span);
+        loop {
+            s = s.put_renormalized(&mut *buf);
+            if left == 0 {
+                return s;
+            }
+            s = s.narrowed(byte_span(rest));
             rest = rest / 256;
             left -= 1;
         }
@@ -152,6 +187,19 @@ impl Coder {
             return false;
         }
         true
+    }
+
+    // Whether a buffer of len bytes has room for the bits of a symbol and of the count low bytes of a plain value. Each symbol adds 32 at
+    // most, so that the state after them is seldom looked for.
+    fn has_room_led(self, span: Span, value: u32, count: u32, len: usize) -> bool
+        requires { ⌜ WellFormed self × Codable span × (count ≤ 4) ⌝ }
+        requires { ⌜ (len ≤ largestFile) × (self .settled + self .pending ≤ 8 * len) ⌝ }
+        ensures { λ r. ⌜ r ≡ fits (afterSymbols self (span ∷ plainSpans count value)) len ⌝ }
+    {
+        if self.settled + self.pending + MOST_BITS <= 8 * len as u64 {
+            return true;
+        }
+        self.after(span).after_plain(value, count).has_room(len)
     }
 
     // What is wrong with a buffer of len bytes (9), or with the state (18); 0 where nothing is.
@@ -196,14 +244,11 @@ impl Writer {
         ensures { λ r. ⌜ writtenGiven r (now (buf .exit)) ≡ writeRoom (now (buf .entry)) self compresses (span ∷ plainSpans count rest) ⌝ }
     {
         let start = self.coder;
-        let second = start.after(span);
-        let next = second.after_plain(rest, count);
-        if !next.has_room(buf.len()) {
+        if !start.has_room_led(span, rest, count, buf.len()) {
             return Written::Refused(NO_ROOM, self);
         }
         pad(&mut *buf, start.settled);
-        start.put_symbol(span, &mut *buf);
-        second.put_plain(rest, count, &mut *buf);
+        let next = start.put_led(span, rest, count, &mut *buf);
         Written::Done(Writer {
             coder: next,
             compressed: either(self.compressed, compresses),
@@ -221,10 +266,8 @@ impl Writer {
         if range <= value {
             return Written::Refused(OUT_OF_RANGE, self);
         }
-        if range <= Coder::LARGEST_RANGE {
-            return self.write_led(buf, true, static_span(range, value), 0, 0);
-        }
-        self.write_led(buf, true, byte_span(value), value / 256, 3)
+        let lead = static_lead(range, value);
+        self.write_led(buf, true, lead.span, lead.rest, lead.count)
     }
 
     // Writes a plain value of one, two or four bytes.
@@ -238,7 +281,7 @@ impl Writer {
         if largest_in(width) < value {
             return Written::Refused(OUT_OF_RANGE, self);
         }
-        let more = more_bytes(width);
+        let more = bytes_in(width) - 1;
         self.write_led(buf, false, byte_span(value), value / 256, more)
     }
 }

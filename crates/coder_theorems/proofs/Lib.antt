@@ -1,3 +1,4 @@
+pub mod Together
 pub mod Storing
 pub mod ReadBack
 pub mod Ends

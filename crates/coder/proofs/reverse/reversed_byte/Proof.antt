@@ -1,82 +1,35 @@
--- The bits one by one are the terms of the definition.
-use borrow.Author.Needs.{needs}
+-- The masks keep every step small, and the steps reverse the bits.
+use Rattle.coder.proofs.Reversal.{reversed-small, reversed-swapped, swappedPairs}
+use Prim.Native.Nat.{_/_}
+use lib.Bits.{and-le-r}
 use native.Mathlib.Omega.{arith}
-use mathlib.Core.Path.{_≡_}
-use Prim.Native.Nat.{ℕ, _+_, _*_, _/_, _%_, _^_}
-use Rattle.coder.specs.Symbols.{reversed}
-use Rattle.coder.proofs.Reversal.{reversed-small}
+use borrow.Author.Needs.{needs}
 use Rattle.coder.proofs.reverse.reversed_byte.Statement.{statement}
 use Rattle.coder.proofs.reverse.reversed_byte.Tie as tie
+
+mul-pairs : tie.Need-mul-pairs
+mul-pairs c = omega (arith, and-le-r (c .args .v) 0x55)
+
+add-pairs : tie.Need-add-pairs
+add-pairs c = omega (arith, and-le-r (c .args .v) 0x55, and-le-r (c .args .v / 2) 0x55)
+
+mul-fours : tie.Need-mul-fours
+mul-fours c = omega (arith, and-le-r (swappedPairs (c .args .v)) 0x33)
+
+add-fours : tie.Need-add-fours
+add-fours c = omega (arith, and-le-r (swappedPairs (c .args .v)) 0x33, and-le-r (swappedPairs (c .args .v) / 4) 0x33)
 
 mul-result : tie.Need-mul-result
 mul-result c = search needs
 
-mul-result-2 : tie.Need-mul-result-2
-mul-result-2 c = search needs
-
-mul-result-3 : tie.Need-mul-result-3
-mul-result-3 c = search needs
-
-mul-result-4 : tie.Need-mul-result-4
-mul-result-4 c = search needs
-
-mul-result-5 : tie.Need-mul-result-5
-mul-result-5 c = search needs
-
-mul-result-6 : tie.Need-mul-result-6
-mul-result-6 c = search needs
-
-mul-result-7 : tie.Need-mul-result-7
-mul-result-7 c = search needs
-
 add-result : tie.Need-add-result
-add-result c = search needs
-
-add-result-2 : tie.Need-add-result-2
-add-result-2 c = search needs
-
-add-result-3 : tie.Need-add-result-3
-add-result-3 c = search needs
-
-add-result-4 : tie.Need-add-result-4
-add-result-4 c = search needs
-
-add-result-5 : tie.Need-add-result-5
-add-result-5 c = search needs
-
-add-result-6 : tie.Need-add-result-6
-add-result-6 c = search needs
-
-add-result-7 : tie.Need-add-result-7
-add-result-7 c = search needs
-
-terms : (a b c d e f g h : ℕ) → a * 128 + (b * 64 + (c * 32 + (d * 16 + (e * 8 + (f * 4 + (g * 2 + h))))))
-    ≡ a * 2 ^ 7 + (b * 2 ^ 6 + (c * 2 ^ 5 + (d * 2 ^ 4 + (e * 2 ^ 3 + (f * 2 ^ 2 + (g * 2 ^ 1 + (h * 2 ^ 0 + 0)))))))
-terms a b c d e f g h = omega arith
-
-eight : (v : ℕ) → v % 2 * 128 + (v / 2 % 2 * 64 + (v / 2 / 2 % 2 * 32 + (v / 2 / 2 / 2 % 2 * 16 + (v / 2 / 2 / 2 / 2 % 2 * 8 + (v / 2 / 2 / 2 / 2 / 2 % 2 * 4 + (v / 2 / 2 / 2 / 2 / 2 / 2 % 2 * 2 + (v / 2 / 2 / 2 / 2 / 2 / 2 / 2 % 2))))))) ≡ reversed 8 v
-unfolding reversed
-eight v = terms (v % 2) (v / 2 % 2) (v / 2 / 2 % 2) (v / 2 / 2 / 2 % 2) (v / 2 / 2 / 2 / 2 % 2) (v / 2 / 2 / 2 / 2 / 2 % 2) (v / 2 / 2 / 2 / 2 / 2 / 2 % 2) (v / 2 / 2 / 2 / 2 / 2 / 2 / 2 % 2)
+add-result c = omega (arith, reversed-swapped (c .args .v) (c .pre), reversed-small (c .args .v))
 
 returns : tie.Need-returns
-returns c = (eight (c .args .v), omega (arith, eight (c .args .v), reversed-small (c .args .v)))
+returns c =
+    let e = reversed-swapped (c .args .v) (c .pre) in
+    (e, omega (arith, e, reversed-small (c .args .v)))
 
 pub reversed-byte-spec : {M : Type 1} → statement M
 reversed-byte-spec =
-    tie.close
-    (tie.spec
-    mul-result
-    mul-result-2
-    mul-result-3
-    mul-result-4
-    mul-result-5
-    mul-result-6
-    mul-result-7
-    add-result
-    add-result-2
-    add-result-3
-    add-result-4
-    add-result-5
-    add-result-6
-    add-result-7
-    returns)
+    tie.close (tie.spec mul-pairs add-pairs mul-fours add-fours mul-result add-result returns)

@@ -1,80 +1,65 @@
--- `coder::interval::Coder::put_tops` meets its contract. The invariant: sixteen turns from here lead to the same bytes, which hold their bits.
-use borrow.Author.Needs.{needs}
-use native.Mathlib.Omega.{arith}
+-- The top bit, the pending ones and the other bits are put one after the other.
+use Prim.Native.Nat.{_/_}
+use Rattle.coder.proofs.Stored.{lead-none, lead-put, mirror-of}
+use Rattle.coder.specs.Symbols.{reversed}
 use mathlib.Core.Path.{_≡_, _∙_}
-use mathlib.Core.List.{List}
-use Prim.Native.Nat.{ℕ, _+_, _-_, _/_}
-use lib.ListN.{length}
-use Rattle.coder.specs.Bytes.{putBits}
-use Rattle.coder.specs.Interval.{settleTop, settleTops, settledBits, topBits}
-use Rattle.coder.specs.Inside.{Holds}
-use Rattle.coder.specs.declared.interval.Coder.{Coder}
-use Rattle.coder.proofs.Counting.{put-stop, put-turn, settle-holds, settle-less, settle-turn}
-use Rattle.coder.proofs.Limits.{Ordered, holds-put}
-use Rattle.coder.proofs.Putting.{length-putBits}
+use borrow.Author.Needs.{needs}
 use Rattle.coder.proofs.interval.Coder.put_tops.Statement.{statement}
 use Rattle.coder.proofs.interval.Coder.put_tops.Tie as tie
 
--- what holds at the loop's head
-record Left (buf₀ : List ℕ) (s₀ : Coder) (buf : List ℕ) (s : Coder) : Type 0 where
-  same : putBits buf (s .settled) (topBits 16 s) ≡ putBits buf₀ (s₀ .settled) (topBits 16 s₀)
-  holds : Holds buf (settleTops 16 s)
-  ordered : Ordered s
-  long : length buf ≡ length buf₀
+returns : tie.Need-returns
+returns c = lead-none _ _ _ (search needs)
 
-left-less : {buf₀ : List ℕ} {s₀ : Coder} {buf : List ℕ} {s : Coder} (buf' : List ℕ) (s' : Coder) → Left buf₀ s₀ buf s → s .low / 0x8000 ≡ s .high / 0x8000 → buf' ≡ putBits buf (s .settled) (settledBits s) → s' ≡ settleTop s → Left buf₀ s₀ buf' s'
-left-less {buf} {s} buf' s' h agree wrote turned = rw (wrote, turned) record {
-  same = put-turn s (h .ordered) agree buf ∙ h .same;
-  holds = rw (settle-turn s (h .ordered) agree) (holds-put (settledBits s) buf (s .settled) (h .holds));
-  ordered = omega (arith, h .ordered);
-  long = length-putBits (settledBits s) buf (s .settled) ∙ h .long;
-}
+add-after : tie.Need-add-after
+add-after c = search needs
 
-abbrev Inv-loop : tie.InvT-loop
-Inv-loop buf₀ s₀ buf s = Left buf₀ s₀ buf s
+add-after-2 : tie.Need-add-after-2
+add-after-2 c = search needs
 
-abbrev μ-loop : tie.MeasureT-loop
-μ-loop buf₀ s₀ buf s = 0x10000 - (s .high + 1 - s .low)
+put-part-requires : tie.Need-put-part-requires
+put-part-requires c κs = search needs
 
-loop-holds : tie.Need-loop-holds Inv-loop μ-loop
-loop-holds c = search needs
+add-put-run : tie.Need-add-put-run
+add-put-run c = search needs
 
-put-top-requires : tie.Need-put-top-requires Inv-loop μ-loop
-put-top-requires c κs =
-    let l = c .before .before .before .before .loop in
-    omega (arith, l .inv .ordered, settle-holds (l .s) (l .inv .ordered) (c .before .if1 .taken) (l .buf) (l .inv .holds))
+sub-put-run : tie.Need-sub-put-run
+sub-put-run c = search needs
 
-top-settled-requires : tie.Need-top-settled-requires Inv-loop μ-loop
-top-settled-requires c κs =
-    let l = c .before .before .before .before .before .before .before .loop in
-    omega (arith, settle-holds (l .s) (l .inv .ordered) (c .before .before .before .before .if1 .taken) (l .buf) (l .inv .holds))
+put-run-requires : tie.Need-put-run-requires
+put-run-requires c κs = search needs
 
-loop-less : tie.Need-loop-less Inv-loop μ-loop
-loop-less c =
-    let l = c .before .before .before .before .before .before .before .before .loop in
-    rw (c .top-settled .ensures) (settle-less (l .s) (l .inv .ordered) (c .before .before .before .before .before .if1 .taken))
+sub-put-up : tie.Need-sub-put-up
+sub-put-up c = search needs
 
-loop-again : tie.Need-loop-again Inv-loop μ-loop
-loop-again c =
-    left-less _ _ (c .before .before .before .before .before .before .before .before .loop .inv)
-    (c .before .before .before .before .before .if1 .taken) (c .before .before .before .put-top .ensures) (c .top-settled .ensures)
+reversed-word-requires : tie.Need-reversed-word-requires
+reversed-word-requires c κs = search needs
 
-same-length : tie.Need-same-length Inv-loop μ-loop
+put-up-requires : tie.Need-put-up-requires
+put-up-requires c κs = search needs
+
+same-length : tie.Need-same-length
 same-length c = search needs
 
-returns : tie.Need-returns Inv-loop μ-loop
-returns c = put-stop _ _ (c .if1 .left) ∙ c .before .before .before .loop .inv .same
+returns-2 : tie.Need-returns-2
+returns-2 c =
+    let a = c .before .before .before .before .before .before .before .before .before .before .before .before .before .before .before .before .before .before .before .args in
+    let mirror : c .before .before .before .reversed-word .result / 2 ≡ reversed 15 (a .self .low) = rw (c .before .before .before .reversed-word .ensures .0) (mirror-of (a .self .low)) in
+    c .before .before .put-up .ensures ∙ rw (c .before .before .before .before .before .before .before .put-run .ensures, c .before .before .before .before .before .before .before .before .before .before .before .before .put-part .ensures)
+    (lead-put (a .n) (a .self) (a .buf .now) _ (search needs) (search needs) (search needs) mirror)
 
 pub put-tops-spec : {M : Type 1} → statement M
 put-tops-spec =
     tie.close
     (tie.spec
-    Inv-loop
-    μ-loop
-    loop-holds
-    put-top-requires
-    top-settled-requires
-    loop-less
-    loop-again
+    returns
+    add-after
+    add-after-2
+    put-part-requires
+    add-put-run
+    sub-put-run
+    put-run-requires
+    sub-put-up
+    reversed-word-requires
+    put-up-requires
     same-length
-    returns)
+    returns-2)

@@ -1,4 +1,4 @@
--- Refused where low's bits don't fit; else the byte is padded, and the top bit, the pending ones and the other fifteen are put.
+-- Refused where low's bits don't fit; else the byte is padded, and all sixteen are put.
 use Rattle.coder.proofs.Finishing.{low-done, low-refused, low-within}
 use Rattle.coder.proofs.Led.{holds}
 use borrow.Author.Tests.{not-false, not-true}
@@ -22,27 +22,15 @@ returns c =
 pad-requires : tie.Need-pad-requires
 pad-requires c κs = search needs
 
-put-top-requires : tie.Need-put-top-requires
-put-top-requires c κs =
+put-tops-requires : tie.Need-put-tops-requires
+put-tops-requires c κs =
     let a = c .before .before .before .before .before .before .before .before .before .before .args in
     let w = low-within (a .buf .now) (a .self) _ (c .before .before .before .before .before .before .before .low-ended .ensures) (sym (c .before .before .before .before .before .before .has-room .ensures) ∙ not-false _ (c .before .before .before .before .before .if1 .left)) in
     omega (arith, c .before .before .before .before .before .before .before .before .before .before .pre, c .before .before .before .pad .kept, w)
 
-add-put-word : tie.Need-add-put-word
-add-put-word c = search needs
-
-add-put-word-2 : tie.Need-add-put-word-2
-add-put-word-2 c = search needs
-
-put-word-requires : tie.Need-put-word-requires
-put-word-requires c κs =
-    let a = c .before .before .before .before .before .before .before .before .before .before .before .before .before .before .before .before .args in
-    let w = low-within (a .buf .now) (a .self) _ (c .before .before .before .before .before .before .before .before .before .before .before .before .before .low-ended .ensures) (sym (c .before .before .before .before .before .before .before .before .before .before .before .before .has-room .ensures) ∙ not-false _ (c .before .before .before .before .before .before .before .before .before .before .before .if1 .left)) in
-    omega (arith, c .before .before .before .before .before .before .before .before .before .before .before .before .before .before .before .before .pre, c .before .before .before .before .before .before .before .before .before .pad .kept, c .before .before .before .before .before .put-top .kept, w)
-
 bytes-of-requires : tie.Need-bytes-of-requires
 bytes-of-requires c κs =
-    let h = holds (c .before .before .before .before .before .before .before .before .before .before .before .before .before .before .before .before .low-ended .result) (c .before .before .before .before .before .before .before .before .before .before .before .before .before .before .before .before .before .before .before .args .buf .now) (search needs) (sym (c .before .before .before .before .before .before .before .before .before .before .before .before .before .before .before .has-room .ensures) ∙ not-false _ (c .before .before .before .before .before .before .before .before .before .before .before .before .before .before .if1 .left)) in
+    let h = holds (c .before .before .before .before .before .before .before .before .before .before .low-ended .result) (c .before .before .before .before .before .before .before .before .before .before .before .before .before .args .buf .now) (search needs) (sym (c .before .before .before .before .before .before .before .before .before .has-room .ensures) ∙ not-false _ (c .before .before .before .before .before .before .before .before .if1 .left)) in
     omega (arith, h)
 
 same-length : tie.Need-same-length
@@ -50,9 +38,9 @@ same-length c = search needs
 
 returns-2 : tie.Need-returns-2
 returns-2 c =
-    let a = c .before .before .before .before .before .before .before .before .before .before .before .before .before .before .before .before .before .before .before .before .args in
-    low-done (a .buf .now) (a .self) _ (c .before .before .before .before .before .before .before .before .before .before .before .before .before .before .before .before .before .low-ended .ensures) _ _ _ _ (sym (c .before .before .before .before .before .before .before .before .before .before .before .before .before .before .before .before .has-room .ensures) ∙ not-false _ (c .before .before .before .before .before .before .before .before .before .before .before .before .before .before .before .if1 .left))
-    (c .bytes-of .ensures) (c .before .before .before .before .before .before .before .before .before .before .before .before .before .pad .ensures) (c .before .before .before .before .before .before .before .before .before .put-top .ensures) (c .before .before .before .put-word .ensures)
+    let a = c .before .before .before .before .before .before .before .before .before .before .before .before .before .before .args in
+    low-done (a .buf .now) (a .self) _ (c .before .before .before .before .before .before .before .before .before .before .before .low-ended .ensures) _ _ _ (sym (c .before .before .before .before .before .before .before .before .before .before .has-room .ensures) ∙ not-false _ (c .before .before .before .before .before .before .before .before .before .if1 .left))
+    (c .bytes-of .ensures) (c .before .before .before .before .before .before .before .pad .ensures) (c .before .before .before .put-tops .ensures)
 
 pub end-low-spec : {M : Type 1} → statement M
 end-low-spec =
@@ -62,10 +50,7 @@ end-low-spec =
     has-room-requires
     returns
     pad-requires
-    put-top-requires
-    add-put-word
-    add-put-word-2
-    put-word-requires
+    put-tops-requires
     bytes-of-requires
     same-length
     returns-2)

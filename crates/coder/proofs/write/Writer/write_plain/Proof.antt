@@ -1,6 +1,6 @@
 -- A plain value is its low byte and the bytes after it.
-use Prim.Native.Nat.{ℕ, _^_, _≤_, _<_}
-use mathlib.Core.Path.{ap, refl, sym, _∙_}
+use Prim.Native.Nat.{ℕ, _+_, _-_, _^_, _≤_, _<_}
+use mathlib.Core.Path.{_≡_, ap, refl, sym, _∙_}
 use mathlib.Core.Bool.{true}
 use Rattle.coder.specs.Symbols.{plainSpans}
 use Rattle.coder.specs.Writing.{bytesIn, writePlain}
@@ -31,8 +31,11 @@ returns-2 c =
     write-refused _ _ (λ e. omega arith)
     (number-value _ _ true _ _ _ (c .before .before .before .write-fault .ensures) (c .before .before .if1 .left) refl (le-ltb (a .value) (256 ^ bytesIn (a .width)) above))
 
-more-bytes-requires : tie.Need-more-bytes-requires
-more-bytes-requires c κs = search needs
+bytes-in-requires : tie.Need-bytes-in-requires
+bytes-in-requires c κs = search needs
+
+sub-more : tie.Need-sub-more
+sub-more c = search needs
 
 byte-span-requires : tie.Need-byte-span-requires
 byte-span-requires c κs = search needs
@@ -40,7 +43,7 @@ byte-span-requires c κs = search needs
 write-led-requires : tie.Need-write-led-requires
 write-led-requires c κs =
     let ok = writable (c .before .before .before .before .before .before .before .before .args .self .coder) _ (sym (c .before .before .before .before .before .before .write-fault .ensures) ∙ c .before .before .before .before .before .if1 .left) in
-    (ok .limits, ((rw (c .byte-span .ensures) (byte-codable _), omega (arith, c .before .before .more-bytes .ensures .1)), record { small = ok .small; within = ok .holds }))
+    (ok .limits, ((rw (c .byte-span .ensures) (byte-codable _), omega (arith, c .before .before .bytes-in .ensures .2)), record { small = ok .small; within = ok .holds }))
 
 same-length : tie.Need-same-length
 same-length c = search needs
@@ -49,8 +52,11 @@ returns-3 : tie.Need-returns-3
 unfolding writePlain
 returns-3 c =
     let a = c .before .before .before .before .before .before .before .before .before .before .before .args in
+    let n = c .before .before .before .before .before .bytes-in .result in
+    let width = c .before .before .before .before .before .bytes-in .ensures in
     let below : a .value < 256 ^ bytesIn (a .width) = rw (← c .before .before .before .before .before .before .before .largest-in .ensures) (omega (arith, c .before .before .before .before .before .before .if2 .left)) in
-    let spans = plain-led (c .before .before .before .before .before .more-bytes .result) (a .value) ∙ ap (λ (n : ℕ). plainSpans n (a .value)) (c .before .before .before .before .before .more-bytes .ensures .0) in
+    let whole : n - 1 + 1 ≡ n = omega (arith, width .1) in
+    let spans = plain-led (n - 1) (a .value) ∙ ap (λ (k : ℕ). plainSpans k (a .value)) (whole ∙ width .0) in
     led-judged _ (a .self) _ true _ _ _ _ _ (c .before .before .before .before .before .before .before .before .before .write-fault .ensures) (c .before .before .before .before .before .before .before .before .if1 .left) refl (lt-ltb (a .value) (256 ^ bytesIn (a .width)) below) spans
     (rw (← c .before .before .before .byte-span .ensures) (c .before .before .write-led .ensures))
 
@@ -62,7 +68,8 @@ write-plain-spec =
     returns
     largest-in-requires
     returns-2
-    more-bytes-requires
+    bytes-in-requires
+    sub-more
     byte-span-requires
     write-led-requires
     same-length
