@@ -9,7 +9,12 @@ const NUMBERS: usize = 200_000;
 const BUFFER: usize = 1024 * 1024;
 const FILLED: u8 = 0xFF;
 const U32_BYTES: u32 = 4;
-/// Rates are in millions a second.
+/// Bits that wait for the next settled one in the long run: 100 Mi.
+const PENDING: u64 = 100 * 1024 * 1024;
+/// Bytes; more than that run takes.
+const PENDING_BUFFER: usize = 14 * 1024 * 1024;
+const HIGH_LIMIT: u64 = 0xFFFF;
+/// Rates are in millions a second, and times in microseconds.
 const MILLION: f64 = 1e6;
 
 const FIRST_SEED: u32 = 12345;
@@ -209,8 +214,49 @@ fn print_ways(title: &str, rows: &[Row], way: fn(&Times) -> &Best) {
     println!();
 }
 
+/// One call in range 2 that settles a bit and all that are pending: by turns a 0 before ones, and a 1 before zeros.
+fn print_pending() {
+    let (mut independent, mut proved) = (Best::new(), Best::new());
+    let mut due = vec![FILLED; PENDING_BUFFER];
+    let mut given = due.clone();
+    for value in [0, 1].into_iter().cycle().take(2 * ROUNDS) {
+        let state = State {
+            low: 0,
+            high: HIGH_LIMIT,
+            pending: PENDING,
+            settled: 0,
+        };
+        let mut writer = Writer {
+            state,
+            compressed: 1,
+        };
+        let mut words = [0, HIGH_LIMIT, PENDING, 0, 1];
+        let written = independent.of(|| writer.write_static(&mut due, 2, value));
+        let answer = proved.of(|| library::write_static(&mut words, &mut given, 2, value));
+        assert!(written.is_ok() && answer == 0, "the run is refused");
+        assert!(words[3] == writer.state.settled, "not the bits settled");
+        assert!(due == given, "the two disagree in the bytes written");
+    }
+    let columns = [
+        "Bits pending",
+        "Independent, µs",
+        "Library, µs",
+        "Time library / independent",
+    ];
+    print_heading("One call that settles them", &columns);
+    let micros = |best: &Best| grouped((best.seconds() * MILLION).round() as u64);
+    print_row(&[
+        grouped(PENDING),
+        micros(&independent),
+        micros(&proved),
+        format!("{:.2}", proved.seconds() / independent.seconds()),
+    ]);
+    println!();
+}
+
 pub fn print_tables() {
     let rows = JOBS.map(run_job);
     print_ways("Decode", &rows, |times| &times.read);
     print_ways("Encode", &rows, |times| &times.write);
+    print_pending();
 }
