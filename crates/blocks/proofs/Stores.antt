@@ -8,7 +8,7 @@ use lib.ListN.{length, length-append}
 use lib.Seq.{sets}
 use Rattle.fields.specs.Judged.{Judged, done, refused, onDone}
 use Rattle.fields.proofs.Judging.{value-before, refusal-before}
-use Rattle.text.proofs.Stores.{sets-append}
+use Rattle.fields.proofs.Stores.{sets-append}
 use Rattle.blocks.specs.Chain.{inChain}
 use Rattle.blocks.specs.Walk.{Outcome, tells, andThen, inChainOutcome}
 use Rattle.blocks.specs.Told.{rowWidth, rowWords, allOf}

@@ -23,8 +23,9 @@ use Rattle.blocks.specs.declared.kind.Kind.the-variants.{Header, Declaration, C
 use Rattle.blocks.specs.declared.head.Extent.{Extent}
 use Rattle.blocks.specs.declared.block.Block.{Block}
 use Rattle.blocks.proofs.Fits.{BlockFits, block-fits, in-chain-done}
+use Rattle.fields_theorems.specs.Encoding.{Bytes}
 use Rattle.blocks_theorems.specs.Layout.{Blocks, none, block, chain, OneOf, Declarations, Continuations, blockBytes, blocksBytes, chainData, modifierChain, countOf}
-use Rattle.blocks_theorems.specs.Layout.{Bytes, continuationTypes, plainDeclarations}
+use Rattle.blocks_theorems.specs.Layout.{continuationTypes, plainDeclarations}
 use Rattle.blocks_theorems.proofs.Next.{nextOf}
 use Rattle.blocks_theorems.proofs.Found.{Found, block-found}
 use Rattle.blocks_theorems.proofs.PartsBack.{up-to}

@@ -16,9 +16,9 @@ use Rattle.blocks.specs.Padding.{alignedTo, zerosOf}
 use Rattle.blocks.specs.Chain.{countAt, fieldsAfterName, chainAt}
 use Rattle.blocks.specs.declared.chain.Run.{Run}
 use Rattle.blocks.proofs.Fits.{chosen}
-use Rattle.fields_theorems.specs.Encoding.{numberBytes, nameBytes, wordBytes}
+use Rattle.fields_theorems.specs.Encoding.{Bytes, numberBytes, nameBytes, wordBytes}
 use Rattle.blocks_theorems.specs.RowParts.{padding}
-use Rattle.blocks_theorems.specs.Layout.{Bytes, chainFields, withPadding}
+use Rattle.blocks_theorems.specs.Layout.{chainFields, withPadding}
 use Rattle.blocks_theorems.proofs.ChainBack.{length-named}
 use Rattle.blocks_theorems.proofs.PartsLaid.{both-laid, field-laid, padding-laid, part-laid, part-length}
 

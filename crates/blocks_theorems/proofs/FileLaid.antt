@@ -18,9 +18,9 @@ use Rattle.blocks.specs.declared.head.Head.{Head}
 use Rattle.blocks.specs.declared.header.FileHeader.{FileHeader}
 use Rattle.blocks.proofs.Fits.{room-within}
 use Rattle.blocks.proofs.Files.{FirstJudged, first-judged}
-use Rattle.fields_theorems.specs.Encoding.{numberBytes}
+use Rattle.fields_theorems.specs.Encoding.{Bytes, numberBytes}
 use Rattle.fields_theorems.proofs.FieldsBack.{length-numberBytes}
-use Rattle.blocks_theorems.specs.Layout.{Bytes, File, Lawful, OneOf, Units, unitless, scaled, headerDataSize, profilesOf, unitsBytes, unitsPattern}
+use Rattle.blocks_theorems.specs.Layout.{File, Lawful, OneOf, Units, unitless, scaled, headerDataSize, profilesOf, unitsBytes, unitsPattern}
 use Rattle.blocks_theorems.specs.Layout.{blockBytes, blocksBytes, fileBytes, fileSize, headerBytes, rowsOf}
 use Rattle.blocks_theorems.proofs.PartsBack.{length-block, length-withPadding}
 use Rattle.blocks_theorems.proofs.HeaderFound.{HeaderFound, data-sized, header-found}

@@ -16,9 +16,9 @@ use Rattle.blocks.specs.Padding.{zerosOf}
 use Rattle.blocks.specs.Head.{headAt, extentOf, paddingsOf}
 use Rattle.blocks.specs.declared.head.Head.{Head}
 use Rattle.blocks.proofs.Fits.{chosen}
-use Rattle.fields_theorems.specs.Encoding.{numberBytes, wordBytes}
+use Rattle.fields_theorems.specs.Encoding.{Bytes, numberBytes, wordBytes}
 use Rattle.blocks_theorems.specs.RowParts.{padding}
-use Rattle.blocks_theorems.specs.Layout.{Bytes, withPadding, blockBytes}
+use Rattle.blocks_theorems.specs.Layout.{withPadding, blockBytes}
 
 -- so many from an offset, and those after them
 pub part-laid : (s : List ℕ) (at n : ℕ) → drop at s ≡ take n (drop at s) ++ drop (at + n) s

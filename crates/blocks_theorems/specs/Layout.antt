@@ -4,14 +4,10 @@ use Prim.Native.Nat.{ℕ, zero, suc, _+_, _≤_, _<_}
 use mathlib.Core.List.{List, [], _∷_, _++_}
 use mathlib.Core.Logic.{_⊎_}
 use mathlib.Core.Path.{_≡_}
-use lib.ListN.{getD, length, replicate}
+use lib.ListN.{length, replicate}
 use Rattle.blocks.specs.declared.tell.Row.{Row}
 use Rattle.fields_theorems.specs.Encoding.{numberBytes, nameBytes, wordBytes}
 use Rattle.blocks_theorems.specs.RowParts.{padding}
-
--- bytes are below 256
-abbrev pub Bytes : List ℕ → Type 0
-Bytes s = (i : ℕ) → getD s i 0 < 256
 
 -- Blocks that stand one after the other.
 pub data Blocks : Type 0 where

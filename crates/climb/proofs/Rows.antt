@@ -11,19 +11,13 @@ use Rattle.fields.specs.Judged.{Judged, done, refused, onDone}
 use Rattle.fields.specs.Numbers.{badSteps}
 use Rattle.fields.specs.Limits.{mostMoves, mostNewFaces}
 use Rattle.fields.proofs.Judging.{refusal-before, same-done, value-before}
+use Rattle.fields.proofs.Stores.{sets-append}
 use Rattle.climb.specs.Lines.{Form, rowFrom, startsWith}
 use Rattle.climb.specs.Climb.{Taken, faceForm, itemsFrom, moveForm, noneTaken, rowTaken, rowsFrom, splitForm, stepFrom}
 use Rattle.climb.specs.Inside.{Stored, stored, takenGiven}
 use Rattle.climb.specs.declared.steps.Place.{Place}
 use Rattle.climb.specs.declared.steps.Taken as taken
 use Rattle.climb.proofs.Lines.{RowTold}
-
--- a list stored after another
-pub sets-append : (l : List ℕ) (i : ℕ) (a b : List ℕ) → sets l i (a ++ b) ≡ sets (sets l i a) (i + length a) b
-sets-append l i [] b = let z : i + 0 ≡ i = omega arith in rw z
-sets-append l i (x ∷ a) b =
-    let z : i + suc (length a) ≡ suc i + length a = omega arith in
-    rw z (sets-append (set l i x) (suc i) a b)
 
 -- nothing more
 stored-none : (count : ℕ) (table : List ℕ) (to line : ℕ) (text : List ℕ)

@@ -4,3 +4,4 @@ pub mod Judging
 pub mod Bytes
 pub mod Values
 pub mod Names
+pub mod Stores

@@ -1,7 +1,11 @@
 -- How numbers and names are laid out in bytes. Nothing here is read by a program: the theorems say that what is laid out so is read back.
-use Prim.Native.Nat.{ℕ, zero, suc, _/_, _%_}
+use Prim.Native.Nat.{ℕ, zero, suc, _/_, _%_, _<_}
 use mathlib.Core.List.{List, [], _∷_, _++_}
-use lib.ListN.{length}
+use lib.ListN.{getD, length}
+
+-- bytes are below 256
+abbrev pub Bytes : List ℕ → Type 0
+Bytes s = (i : ℕ) → getD s i 0 < 256
 
 -- the lowest n bytes of a number: "Little-endian"
 unfoldable pub numberBytes : ℕ → ℕ → List ℕ

@@ -11,6 +11,7 @@ use lib.ListN.{length, length-append, set}
 use lib.Seq.{sets}
 use Rattle.fields.specs.Judged.{Judged, done, refused}
 use Rattle.fields.specs.Numbers.{outOfRange}
+use Rattle.fields.proofs.Stores.{sets-append}
 use Rattle.fields.proofs.Judging.{not-done, passed, refusal-before, same-done, value-before}
 use Rattle.coder.specs.Bytes.{bitAt}
 use Rattle.coder.specs.Histogram.{Histogram, freshHistogram, sum}
@@ -66,11 +67,6 @@ shading-below count hs d s r e =
     omega (arith, leb-false count (f .0 .value) (g .0))
 
 -- ---- the loop
-
--- words stored one part after the other
-pub sets-append : (t : List ℕ) (i : ℕ) (xs ys : List ℕ) → sets t i (xs ++ ys) ≡ sets (sets t i xs) (i + length xs) ys
-sets-append t i [] ys = let z : i + 0 ≡ i = omega arith in rw z
-sets-append t i (x ∷ xs) ys = let z : i + suc (length xs) ≡ suc i + length xs = omega arith in rw z (sets-append (set t i x) (suc i) xs ys)
 
 module _ (declaration : Declaration) (counts : List ℕ) (count i : ℕ) (hs : Histograms) (d : List ℕ) (s : Coder) (table : List ℕ) (h : i < count) where
   abbrev left : List ℕ → ℕ → ℕ → Histograms → Coder → Judged (List ℕ)

@@ -3,15 +3,9 @@ use mathlib.Core.Path.{_≡_, refl, ap, sym, _∙_}
 use mathlib.Core.List.{List, [], _∷_, _++_}
 use Prim.Native.Nat.{ℕ, suc, _+_, _≤_, _<_}
 use native.Mathlib.Omega.{arith}
+use Rattle.fields.proofs.Stores.{sets-append}
 use lib.ListN.{length, set, getD, drop}
 use lib.Seq.{sets, length-sets, set-comm, drop-cons, drop-length}
-
--- what is stored in two parts
-pub sets-append : (t : List ℕ) (i : ℕ) (a b : List ℕ) → sets t i (a ++ b) ≡ sets (sets t i a) (i + length a) b
-sets-append t i [] b = let e : i + 0 ≡ i = omega arith in rw e
-sets-append t i (x ∷ a) b =
-    let e : i + suc (length a) ≡ suc i + length a = omega arith in
-    rw e (sets-append (set t i x) (suc i) a b)
 
 -- what is stored after the first part is stored with it
 pub stores-on : (t₀ t₁ : List ℕ) (at : ℕ) (a b : List ℕ) (n : ℕ) → t₁ ≡ sets t₀ at a → n ≡ length a → sets t₁ (at + n) b ≡ sets t₀ at (a ++ b)

@@ -6,7 +6,8 @@ use native.Mathlib.Omega.{arith}
 use lib.ListN.{set}
 use lib.Seq.{sets}
 use Rattle.text.specs.Digits.{digitOf, digitsOf, decimalWidth}
-use Rattle.text.proofs.Stores.{sets-append, last-first}
+use Rattle.fields.proofs.Stores.{sets-append}
+use Rattle.text.proofs.Stores.{last-first}
 use Rattle.text.proofs.Widths.{digits-length, width-one, width-more, tenth}
 
 -- a count of the digits under way: so many are counted, with one of the rest
