@@ -14,7 +14,7 @@ use native.Mathlib.Nat.{add-zero, div-one, zero-add, zero-mul}
 use native.Mathlib.Omega.{arith}
 
 -- the bit of a number at a place
-abbrev bit : ℕ → Stream
+abbrev pub bit : ℕ → Stream
 bit v i = v / 2 ^ i % 2
 
 -- the bits of a remainder by a higher power
@@ -29,7 +29,7 @@ high-bit : (k v i : ℕ) → bit (v / 2 ^ k) i ≡ bit v (k + i)
 high-bit k v i = ap (λ (n : ℕ). n % 2) (shr-shr v k i)
 
 -- a stream's bits, the first of them the highest, are a number's last bits in reverse order
-reversed-word : (n v : ℕ) (x : Stream) (p : ℕ) → ((i : ℕ) → i < n → bit v i ≡ x (p + i)) → reversed n v ≡ word x p n
+pub reversed-word : (n v : ℕ) (x : Stream) (p : ℕ) → ((i : ℕ) → i < n → bit v i ≡ x (p + i)) → reversed n v ≡ word x p n
 unfolding reversed word
 reversed-word zero v x p same = refl
 reversed-word (suc n) v x p same =

@@ -1,12 +1,15 @@
 -- A writer that took plain values only, from a fresh state on, has fresh limits: a byte is one of 256 equal parts of the whole interval, and
 -- such a part settles to the whole again.
 use Prim.Native.Nat.{ℕ, zero, suc, _+_, _*_, _-_, _/_, _%_, _^_, _≤_, _<_}
-use Rattle.coder.proofs.Reversal.{reversed-small}
+use Rattle.coder.proofs.Stored.{lead-tops}
 use Rattle.coder.proofs.Streams.{word-below}
-use Rattle.coder.proofs.Turns.{postpone-low, settle-more, settle-stop}
-use Rattle.coder.specs.Interval.{afterSymbol, code, narrow, range, settleTop, settleTops}
+use Rattle.coder.proofs.Together.{settle-together}
+use Rattle.coder.proofs.Turns.{postpone-low}
+use Rattle.coder.specs.Ending.{bitsOf}
+use Rattle.coder.specs.Interval.{afterSymbol, code, narrow, postpones, settleTops, settledBits, symbolBits, topBits}
 use Rattle.coder.specs.Stream.{Binary, Stream}
-use Rattle.coder.specs.Symbols.{afterSymbols, byteSpan, plainSpans, reversed}
+use Rattle.coder.specs.Symbols.{afterSymbols, byteSpan, plainSpans, reversed, staticSpan}
+use Rattle.coder.specs.Together.{Agreeing, leadBits, settledBy}
 use Rattle.coder.specs.Writing.{write, writeDynamic, writePlain, writeStatic}
 use Rattle.coder.specs.declared.interval.Coder.{Coder}
 use Rattle.coder.specs.declared.interval.Span.{Span}
@@ -16,8 +19,6 @@ use Rattle.coder_theorems.specs.Runs.{AllKeep, Context, Held, Histograms
 use mathlib.Core.Bool.{Bool, true, false, _||_, true≢false}
 use mathlib.Core.List.{List, [], _∷_}
 use mathlib.Core.Path.{_≡_, _∙_, ap, refl, subst, sym}
-use lib.Pow.{pow-pos}
-use native.Mathlib.Nat.{div-add-mod', div-lt-iff-lt-mul, mod-lt, mul-le-mul-right, mul-one, pow-suc}
 use native.Mathlib.Omega.{arith}
 
 -- ---- the whole interval
@@ -27,40 +28,63 @@ pub record Whole (s : Coder) : Type 0 where
   pub high : s .high ≡ 0xFFFF
   pub pending : s .pending ≡ 0
 
--- the part a of 2^m equal ones, each u wide
-part-settles : (m n a u : ℕ) (s : Coder) → m ≤ n → 1 ≤ u → u * 2 ^ m ≡ 0x10000 → a < 2 ^ m → s .low ≡ a * u → s .high + 1 ≡ a * u + u
-    → s .pending ≡ 0 → Whole (settleTops n s)
-part-settles zero n a u s enough some wide below low high none =
-    let first : a ≡ 0 = omega arith in
-    let all : u ≡ 0x10000 = rw mul-one at wide in
-    let same : Whole s = record { low = omega (arith, rw first at low); high = omega (arith, rw first at high); pending = none } in
-    subst Whole (settle-stop n s (λ e. omega arith)) same
-part-settles (suc m) zero a u s enough some wide below low high none = absurd (omega arith)
-part-settles (suc m) (suc n) a u s enough some wide below low high none =
-    let p : ℕ = 2 ^ m in
-    let b : ℕ = a / p in
-    let rest : ℕ = a % p in
-    let twice : 2 ^ suc m ≡ 2 * p = pow-suc 2 m ∙ omega arith in
-    let half : u * p ≡ 0x8000 = omega (arith, ap (λ (k : ℕ). u * k) twice) in
-    let bit : b < 2 = div-lt-iff-lt-mul {k = p} (pow-pos m) .1 (omega arith) in
-    let inside : suc rest * u ≤ p * u = mul-le-mul-right u (mod-lt a (pow-pos m)) in
-    let split : a * u ≡ b * (u * p) + rest * u = ap (λ (k : ℕ). k * u) (sym (div-add-mod' a p)) ∙ omega arith in
-    let start : a * u ≡ b * 0x8000 + rest * u = split ∙ ap (λ (k : ℕ). b * k + rest * u) half in
-    let top : s .low / 0x8000 ≡ s .high / 0x8000 = omega arith in
-    subst Whole (settle-more n s top)
-    (part-settles m n rest (2 * u) (settleTop s) (omega arith) (omega arith) (omega arith) (mod-lt a (pow-pos m)) (omega arith) (omega arith) (omega arith))
+-- with so many settled bits
+abbrev pub wholeAt : ℕ → Coder
+wholeAt n = record { low = 0; high = 0xFFFF; pending = 0; settled = n }
+
+-- the part q of 256 equal ones: its limits agree in eight top bits, and in no more
+abbrev part : ℕ → ℕ → Coder
+part n q = record { low = 256 * q; high = 256 * q + 255; pending = 0; settled = n }
+
+to-part : (n q : ℕ) → narrow (wholeAt n) (staticSpan 256 q) ≡ part n q
+unfolding narrow
+to-part n q =
+    let low : 0 + 0x10000 * q / 256 ≡ 256 * q = omega arith in
+    let high : 0 + 0x10000 * (q + 1) / 256 - 1 ≡ 256 * q + 255 = omega arith in
+    λ i. record { low = low i; high = high i; pending = 0; settled = n }
+
+eight-agree : (q : ℕ) → Agreeing 8 (256 * q) (256 * q + 255)
+eight-agree q =
+    record {
+      left = 8;
+      whole = refl;
+      same = omega arith;
+      next = λ k e h.
+          let seven : k ≡ 7 = omega arith in
+          let there : 256 * q / 2 ^ 7 ≡ (256 * q + 255) / 2 ^ 7 = rw seven at h in
+          omega arith;
+    }
+
+part-settled : (n q : ℕ) → settledBy 8 (part n q) ≡ wholeAt (n + 8)
+unfolding settledBy
+part-settled n q =
+    let low : 256 * q * 2 ^ 8 % 0x10000 ≡ 0 = omega arith in
+    let high : (256 * q + 255) * 2 ^ 8 % 0x10000 + (2 ^ 8 - 1) ≡ 0xFFFF = omega arith in
+    let count : n + 8 + 0 ≡ n + 8 = omega arith in
+    λ i. record { low = low i; high = high i; pending = 0; settled = count i }
+
+-- Such a part settles eight bits, and is the whole again.
+pub part-after : (n q : ℕ) → afterSymbol (wholeAt n) (staticSpan 256 q) ≡ wholeAt (n + 8)
+unfolding afterSymbol
+part-after n q =
+    ap (λ (t : Coder). postpones 16 (settleTops 16 t)) (to-part n q)
+    ∙ ap (postpones 16) (settle-together 8 (part n q) (eight-agree q) ∙ part-settled n q)
+    ∙ sym (postpone-low 16 (wholeAt (n + 8)) (λ e. omega arith))
+
+-- They are those of its number, the highest first.
+pub part-bits : (n q : ℕ) → q < 256 → symbolBits (wholeAt n) (staticSpan 256 q) ≡ bitsOf 8 q
+unfolding symbolBits leadBits settledBits bitsOf
+part-bits n q h =
+    let top : 256 * q / 0x8000 ≡ q / 2 ^ 7 % 2 = omega arith in
+    let rest : 256 * q / 2 ^ 8 ≡ q = omega arith in
+    ap (topBits 16) (to-part n q) ∙ sym (lead-tops 8 (part n q) (eight-agree q)) ∙ rw (top, rest)
 
 byte-whole : (s : Coder) (v : ℕ) → Whole s → Whole (afterSymbol s (byteSpan v))
-unfolding afterSymbol narrow
 byte-whole s v h =
-    let k : ℕ = reversed 8 (v % 256) in
-    let small = reversed-small (v % 256) in
-    let t : Coder = narrow s (byteSpan v) in
-    let all : range s ≡ 0x10000 = omega arith in
-    let low : t .low ≡ k * 256 = ap (λ (r : ℕ). s .low + r * k / 256) all ∙ omega arith in
-    let high : t .high + 1 ≡ k * 256 + 256 = ap (λ (r : ℕ). s .low + r * (k + 1) / 256 - 1 + 1) all ∙ omega arith in
-    let settled : Whole (settleTops 16 t) = part-settles 8 16 k 256 t (omega arith) (omega arith) (omega arith) small low high (h .pending) in
-    subst Whole (postpone-low 16 (settleTops 16 t) (λ e. omega arith)) settled
+    let same : s ≡ wholeAt (s .settled) = λ i. record { low = h .low i; high = h .high i; pending = h .pending i; settled = s .settled } in
+    let next : afterSymbol s (byteSpan v) ≡ wholeAt (s .settled + 8) =
+    ap (λ (t : Coder). afterSymbol t (byteSpan v)) same ∙ part-after (s .settled) (reversed 8 (v % 256)) in
+    subst Whole (sym next) (record { low = refl; high = refl; pending = refl })
 
 plain-whole : (n v : ℕ) (s : Coder) → Whole s → Whole (afterSymbols s (plainSpans n v))
 unfolding afterSymbols plainSpans

@@ -17,9 +17,9 @@ module _ (bytes : ℕ) where
   no-width a b d = rw (ne-eqb bytes 1 a, ne-eqb bytes 2 b, ne-eqb bytes 4 d)
 
   module _ (buffer : List ℕ) (w : Writer) (value : ℕ) where
-    pub plain-written : {n : ℕ} → bytes ≡ n → isWidth n ≡ true → writePlain n buffer w value ≡ writeBytes bytes buffer w value
+    pub width-written : {n : ℕ} → bytes ≡ n → isWidth n ≡ true → writePlain n buffer w value ≡ writeBytes bytes buffer w value
     unfolding writeBytes
-    plain-written e h = rw (e, h)
+    width-written e h = rw (e, h)
 
     pub no-plain-written : isWidth bytes ≡ false → writeStatic 0 buffer w value ≡ writeBytes bytes buffer w value
     unfolding writeBytes

@@ -1,7 +1,7 @@
 -- A width of the coder's, or none.
 use mathlib.Core.Path.{_∙_, refl}
 use denote.Ref.{now}
-use Rattle.oysterfold.proofs.Widths.{no-plain-written, no-width, plain-written}
+use Rattle.oysterfold.proofs.Widths.{no-plain-written, no-width, width-written}
 use borrow.Author.Needs.{needs}
 use Rattle.oysterfold.proofs.writing.written_plain.Statement.{statement}
 use Rattle.oysterfold.proofs.writing.written_plain.Tie as tie
@@ -24,7 +24,7 @@ same-length c = search needs
 returns : tie.Need-returns
 returns c =
     let a = c .before .before .before .before .before .before .args in
-    c .before .before .write-plain .ensures ∙ plain-written (a .bytes) (now (a .buffer)) (a .w) (a .value) (c .before .before .before .before .match .keys1) refl
+    c .before .before .write-plain .ensures ∙ width-written (a .bytes) (now (a .buffer)) (a .w) (a .value) (c .before .before .before .before .match .keys1) refl
 
 same-length-2 : tie.Need-same-length-2
 same-length-2 c = search needs
@@ -32,7 +32,7 @@ same-length-2 c = search needs
 returns-2 : tie.Need-returns-2
 returns-2 c =
     let a = c .before .before .before .before .before .before .args in
-    c .before .before .write-plain2 .ensures ∙ plain-written (a .bytes) (now (a .buffer)) (a .w) (a .value) (c .before .before .before .before .match .keys2) refl
+    c .before .before .write-plain2 .ensures ∙ width-written (a .bytes) (now (a .buffer)) (a .w) (a .value) (c .before .before .before .before .match .keys2) refl
 
 same-length-3 : tie.Need-same-length-3
 same-length-3 c = search needs
@@ -40,7 +40,7 @@ same-length-3 c = search needs
 returns-3 : tie.Need-returns-3
 returns-3 c =
     let a = c .before .before .before .before .before .before .args in
-    c .before .before .write-plain3 .ensures ∙ plain-written (a .bytes) (now (a .buffer)) (a .w) (a .value) (c .before .before .before .before .match .keys3) refl
+    c .before .before .write-plain3 .ensures ∙ width-written (a .bytes) (now (a .buffer)) (a .w) (a .value) (c .before .before .before .before .match .keys3) refl
 
 same-length-4 : tie.Need-same-length-4
 same-length-4 c = search needs

@@ -1,0 +1,2 @@
+pub mod PlainRuns
+pub mod Witnesses
