@@ -6,6 +6,7 @@ pub mod coder;
 mod coder_call;
 pub mod fixed;
 pub mod mesh;
+pub mod plain;
 pub mod sequence;
 mod states;
 mod step_call;
@@ -19,7 +20,7 @@ use independent::random::Random;
 type Run = fn(&mut Random, &mut Tally) -> Result<(), Difference>;
 
 /// Each kind stands here as often as it is its turn.
-const TURNS: [Run; 21] = [
+const TURNS: [Run; 22] = [
     blocks::walk,
     blocks::header,
     mesh::read_mesh,
@@ -41,6 +42,7 @@ const TURNS: [Run; 21] = [
     mesh::declaration,
     coder::read,
     blocks::walk,
+    plain::write_and_read,
 ];
 
 /// One input; its index and the run's seed tell all of it.

@@ -155,6 +155,12 @@ def plain_run():
         # Zeros follow; where just the bytes in use are lent, the next one is cut.
         inner(get_plain(1, 0, 0)), length(11), get_plain(1, 1), reader_at(0, TOP, 0, 80),
         get_plain(1, 0, 0x67), get_plain(1, 1, 0, 0, TOP, 0, 88, 0),
+        # After the value 1 of range 3 a 5 is written as 51 01, and read as 5.
+        start(), put_static(3, 1), put_plain(1, 5, 0, 0x5400, 0xFDFF, 0, 9, 1), show_bytes(3, "510100"),
+        end(0, 6), show_bytes(7, "51550000000000"), get_static(3, 0, 1), get_plain(1, 0, 5),
+        # After the one value of range 1 it is its byte, but the end writes four zero bytes.
+        start(fill=0xFF), put_static(1, 0), put_plain(1, 5, 0, 0, TOP, 0, 8, 1), show_bytes(2, "05ff"),
+        end(0, 5, 0, TOP, 0, 40, 1), show_bytes(6, "0500000000ff"),
         *both_turns(numbers), *both_turns([put_static(3, 1), *numbers, put_static(3, 1), *numbers]),
         *round_trip([put_static(3, 0), *numbers, put_static(7, 3), *numbers], fill=0xFF),
     ]

@@ -16,7 +16,7 @@ const ODD_RANGES: [u32; 16] = [
 ];
 const LARGEST_RANGE: usize = 0x3FFE;
 const VALUES: u32 = 256;
-const WIDTHS: [u32; 3] = [1, 2, 4];
+pub const WIDTHS: [u32; 3] = [1, 2, 4];
 const ODD_WIDTHS: [u32; 8] = [0, 3, 5, 8, 64, 0x100, 0x10001, u32::MAX];
 
 fn random_range(random: &mut Random) -> u32 {

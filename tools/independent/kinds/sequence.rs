@@ -13,7 +13,11 @@ const MOST_CALLS: usize = 24;
 const MOST_BYTES: usize = 160;
 
 /// A call with what the call before left.
-fn next(call: &mut CoderCall, operation: Operation, tally: &mut Tally) -> Result<u32, Difference> {
+pub fn next(
+    call: &mut CoderCall,
+    operation: Operation,
+    tally: &mut Tally,
+) -> Result<u32, Difference> {
     call.operation = operation;
     call.result = Lent::patterned(RESULT_WORDS);
     let (number, after) = both(call, tally)?;
