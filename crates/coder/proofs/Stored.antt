@@ -201,9 +201,10 @@ put-part-at zero v l p h s f b = absurd (omega arith)
 put-part-at (suc k) v l p h s f b = rw (put-part k v l p h f, mod-eq-of-lt b)
 
 -- equal bits
-pub equal-at : (b c : ℕ) → c ≤ 8 → b ≤ 1 → (1 ≤ 1 * 2 ^ c % 0x100000000) × (b * (1 * 2 ^ c % 0x100000000 - 1) ≡ b * (2 ^ c - 1)) × (b * (2 ^ c - 1) < 2 ^ c)
+pub equal-at : (b c : ℕ) → c < 32 → b ≤ 1 → (1 ≤ 1 * 2 ^ c % 0x100000000) × (b * (1 * 2 ^ c % 0x100000000 - 1) ≡ b * (2 ^ c - 1)) × (b * (2 ^ c - 1) < 2 ^ c)
 equal-at b c f h =
-    let one : 1 * 2 ^ c % 0x100000000 ≡ 2 ^ c = shl-small c 1 (omega arith) (omega arith) ∙ one-mul (2 ^ c) in
+    let fits : 2 ^ c ≤ 2 ^ 31 = pow-mono (let most : c ≤ 31 = omega arith in most) in
+    let one : 1 * 2 ^ c % 0x100000000 ≡ 2 ^ c = rw one-mul (mod-eq-of-lt (omega arith)) in
     let some : 1 ≤ 2 ^ c = pow-pos c in
     let most : b * (2 ^ c - 1) ≤ 1 * (2 ^ c - 1) = mul-le-mul-right (2 ^ c - 1) h in
     (omega arith, rw one, omega (arith, one-mul (2 ^ c - 1)))

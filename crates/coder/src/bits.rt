@@ -95,70 +95,6 @@ fn taken(at: u64, left: u64) -> u32
     room
 }
 
-// So many ones, or zeros.
-fn equal_bits(bit: u32, count: u32) -> u32
-    requires { ⌜ (bit ≤ 1) × (count ≤ 8) ⌝ }
-    ensures { λ r. ⌜ (r ≡ bit * (2 ^ count - 1)) × (r < 2 ^ count) ⌝ }
-{
-    bit * ((1 << count) - 1)
-}
-
-// Puts count equal bits from a place on, byte by byte.
-fn put_short(buf: &mut [u8], from: u64, bit: u32, count: u64)
-    requires { ⌜ (length (now buf) ≤ largestFile) × (from + count ≤ 8 * length (now buf)) × (bit ≤ 1) ⌝ }
-    ensures { λ _. ⌜ now (buf .exit) ≡ putBits (now (buf .entry)) from (replicate count bit) ⌝ }
-{
-    let mut at = from;
-    let mut left = count;
-    while 0 < left {
-        let n = taken(at, left);
-        put_part(&mut *buf, at, n, equal_bits(bit, n));
-        at += n as u64;
-        left -= n as u64;
-    }
-}
-
-// Makes all bits of the bytes from one up to another equal.
-fn fill(buf: &mut [u8], from: usize, end: usize, bit: u32)
-    requires { ⌜ (from ≤ end) × (end ≤ length (now buf)) × (bit ≤ 1) ⌝ }
-    ensures { λ _. ⌜ now (buf .exit) ≡ putBits (now (buf .entry)) (8 * from) (replicate (8 * (end - from)) bit) ⌝ }
-{
-    let byte = equal_bits(bit, 8) as u8;
-    let mut i = from;
-    while i < end {
-        buf[i] = byte;
-        i += 1;
-    }
-}
-
-// Puts a run that reaches the end of its first byte: the whole bytes in its middle are filled.
-fn put_long(buf: &mut [u8], from: u64, bit: u32, count: u64)
-    requires { ⌜ (length (now buf) ≤ largestFile) × (from + count ≤ 8 * length (now buf)) × (bit ≤ 1) × (8 ≤ count) ⌝ }
-    ensures { λ _. ⌜ now (buf .exit) ≡ putBits (now (buf .entry)) from (replicate count bit) ⌝ }
-{
-    let head = 8 - from % 8;
-    let first = (from + head) / 8;
-    let end = (from + count) / 8;
-    put_short(&mut *buf, from, bit, head);
-    fill(&mut *buf, first as usize, end as usize, bit);
-    put_short(&mut *buf, 8 * end, bit, (from + count) % 8);
-}
-
-// From so many bits on a run is put by whole bytes.
-const LONG: u64 = 64;
-
-// Puts count equal bits from a place on.
-pub(crate) fn put_run(buf: &mut [u8], from: u64, bit: u32, count: u64)
-    requires { ⌜ (length (now buf) ≤ largestFile) × (from + count ≤ 8 * length (now buf)) × (bit ≤ 1) ⌝ }
-    ensures { λ _. ⌜ now (buf .exit) ≡ putBits (now (buf .entry)) from (replicate count bit) ⌝ }
-{
-    if count < LONG {
-        put_short(buf, from, bit, count);
-    } else {
-        put_long(buf, from, bit, count);
-    }
-}
-
 // The n low bits of a number.
 fn low_bits(value: u32, n: u32) -> u32
     requires { ⌜ n ≤ 8 ⌝ }
@@ -189,6 +125,63 @@ pub(crate) fn put_up(buf: &mut [u8], from: u64, count: u64, value: u32)
         at += n as u64;
         left -= n as u64;
         rest = high_bits(rest, n);
+    }
+}
+
+// So many ones, or zeros.
+fn equal_bits(bit: u32, count: u32) -> u32
+    requires { ⌜ (bit ≤ 1) × (count < 32) ⌝ }
+    ensures { λ r. ⌜ (r ≡ bit * (2 ^ count - 1)) × (r < 2 ^ count) ⌝ }
+{
+    bit * ((1 << count) - 1)
+}
+
+// Puts a run of equal bits that a number holds.
+fn put_short(buf: &mut [u8], from: u64, bit: u32, count: u64)
+    requires { ⌜ (length (now buf) ≤ largestFile) × (from + count ≤ 8 * length (now buf)) × (bit ≤ 1) × (count < 32) ⌝ }
+    ensures { λ _. ⌜ now (buf .exit) ≡ putBits (now (buf .entry)) from (replicate count bit) ⌝ }
+{
+    put_up(buf, from, count, equal_bits(bit, count as u32));
+}
+
+// Makes all bits of the bytes from one up to another equal.
+fn fill(buf: &mut [u8], from: usize, end: usize, bit: u32)
+    requires { ⌜ (from ≤ end) × (end ≤ length (now buf)) × (bit ≤ 1) ⌝ }
+    ensures { λ _. ⌜ now (buf .exit) ≡ putBits (now (buf .entry)) (8 * from) (replicate (8 * (end - from)) bit) ⌝ }
+{
+    let byte = equal_bits(bit, 8) as u8;
+    let mut i = from;
+    while i < end {
+        buf[i] = byte;
+        i += 1;
+    }
+}
+
+// Puts a run that reaches the end of its first byte: the whole bytes in its middle are filled.
+fn put_long(buf: &mut [u8], from: u64, bit: u32, count: u64)
+    requires { ⌜ (length (now buf) ≤ largestFile) × (from + count ≤ 8 * length (now buf)) × (bit ≤ 1) × (8 ≤ count) ⌝ }
+    ensures { λ _. ⌜ now (buf .exit) ≡ putBits (now (buf .entry)) from (replicate count bit) ⌝ }
+{
+    let head = 8 - from % 8;
+    let first = (from + head) / 8;
+    let end = (from + count) / 8;
+    put_short(&mut *buf, from, bit, head);
+    fill(&mut *buf, first as usize, end as usize, bit);
+    put_short(&mut *buf, 8 * end, bit, (from + count) % 8);
+}
+
+// From so many bits on a run is put by whole bytes.
+const LONG: u64 = 32;
+
+// Puts count equal bits from a place on.
+pub(crate) fn put_run(buf: &mut [u8], from: u64, bit: u32, count: u64)
+    requires { ⌜ (length (now buf) ≤ largestFile) × (from + count ≤ 8 * length (now buf)) × (bit ≤ 1) ⌝ }
+    ensures { λ _. ⌜ now (buf .exit) ≡ putBits (now (buf .entry)) from (replicate count bit) ⌝ }
+{
+    if count < LONG {
+        put_short(buf, from, bit, count);
+    } else {
+        put_long(buf, from, bit, count);
     }
 }
 

@@ -16,7 +16,7 @@ sub-result c = equal-at (c .args .bit) (c .args .count) (search needs) (search n
 mul-result : tie.Need-mul-result
 mul-result c =
     let e = equal-at (c .args .bit) (c .args .count) (search needs) (search needs) in
-    omega (arith, e .1, e .2, pow-mono {i = c .args .count} {j = 8} (search needs))
+    omega (arith, e .1, e .2, pow-mono {i = c .args .count} {j = 31} (search needs))
 
 returns : tie.Need-returns
 returns c =
