@@ -1,4 +1,6 @@
 // The climb text, read into a step table (01, "Climbing").
+#![tactic(auto)]
+
 mod bytes;
 mod digits;
 mod line;

@@ -1,5 +1,7 @@
 // Reads the first base mesh of a file and a climb text, makes the calls of a word, single steps and walks, and prints after each the
 // number given back and the counts of positions and faces.
+#![tactic(auto)]
+
 mod calls;
 mod print;
 mod word;

@@ -1,4 +1,6 @@
 // The bit coder of ECMA-363 clause 10.4: a writer, a reader and the end, for any bytes and any state that a caller hands in.
+#![tactic(auto)]
+
 pub mod bits;
 pub mod dynamic;
 pub mod ending;

@@ -1,4 +1,6 @@
 // Runs each script of coder calls that its arguments name, and prints what the calls answer.
+#![tactic(auto)]
+
 mod machine;
 mod print;
 mod read;

@@ -1,5 +1,7 @@
 // Walks the file that its argument names, cut at every length, with the file size field set to that length: a line for each cut with
 // its length, the answer's number and place, and the number of blocks.
+#![tactic(auto)]
+
 use blocks::file::{Walk, walk_blocks};
 use input::Input;
 use libc::STDOUT_FILENO;

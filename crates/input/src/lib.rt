@@ -1,4 +1,6 @@
 // A program's input: the file that an argument names, or standard input. What fails is told on standard error.
+#![tactic(auto)]
+
 ghost use Rattle.std.specs.Prelude.{length};
 ghost use Rattle.input.specs.Input.{InputFits};
 

@@ -1,4 +1,6 @@
 // Lists the blocks of the file that its argument names, or of standard input where there is none.
+#![tactic(auto)]
+
 use fields::field::bytes_at;
 use fields::limits::LARGEST_PROGRAM_FILE;
 use input::Input;

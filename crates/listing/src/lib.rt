@@ -1,4 +1,6 @@
 // The listing of a file's blocks as text (document 01, "Examples on each side"): a version line, a line a block, an end line.
+#![tactic(auto)]
+
 ghost use Rattle.std.specs.Prelude.{◌≡◌, [], length};
 ghost use Rattle.std.proofs.lemmas.List.Edits.{sets};
 ghost use Rattle.fields.specs.Numbers.{no_room};

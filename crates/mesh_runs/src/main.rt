@@ -1,5 +1,7 @@
 // Reads the mesh of each file that its arguments name, and prints all that is handed out: the declaration's fields, the answer, a
 // checksum of each table, and the faces of a small mesh. Where a file asks for cuts: the answer for each part cut at every length.
+#![tactic(auto)]
+
 mod pair;
 mod print;
 mod table;

@@ -1,4 +1,6 @@
 // Progressive meshes (01, "Climbing"): one step of detail up or down, on the caller's tables of faces and positions.
+#![tactic(auto)]
+
 pub mod counts;
 pub mod form;
 pub mod lay;

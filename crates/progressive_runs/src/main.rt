@@ -1,5 +1,7 @@
 // Reads the mesh and the climb text of each file that its arguments name, makes the calls that follow them, and prints every
 // answer with a checksum of each table.
+#![tactic(auto)]
+
 mod breathe;
 mod calls;
 mod print;

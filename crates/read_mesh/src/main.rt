@@ -1,5 +1,7 @@
 // Reads each base mesh of the file that its argument names, or of standard input where there is none, and prints its name, the
 // answer, its counts, and how many faces each shading has.
+#![tactic(auto)]
+
 mod print;
 
 use blocks::file::{Walk, walk_blocks};

@@ -1,4 +1,6 @@
 // Rows of a walk's table, and the declaration that a base mesh goes with.
+#![tactic(auto)]
+
 ghost use Rattle.std.specs.Prelude.{◌≡◌, ◌<◌, eqb};
 ghost use Rattle.blocks.specs.Told.{row_width};
 ghost use Rattle.rows.specs.Rows.{base_mesh, declared_below, declared_for, declared_given, declared_of, declares, has_name, word_in};

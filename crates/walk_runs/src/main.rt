@@ -1,4 +1,6 @@
 // For each file that its arguments name: the walk's answer, the header's fields, the listing, and the parts of its blocks.
+#![tactic(auto)]
+
 use blocks::file::{Walk, walk_blocks};
 use blocks::header::{FirstBlock, first_block};
 use blocks::parts::{chain_name, data_part, meta_part};
