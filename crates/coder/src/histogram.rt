@@ -107,7 +107,7 @@ pub(crate) fn span_of(h: &[u32], total: u64, symbol: usize) -> Span
 }
 
 // A symbol, and the sum of the frequencies before it.
-#[derive(Drop)]
+#[derive(Clone, Copy)]
 pub struct Symbol {
     pub index: usize,
     pub start: u64,

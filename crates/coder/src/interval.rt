@@ -10,7 +10,7 @@ use crate::bits::{put_part, put_run, put_up};
 use crate::reverse::reversed_word;
 
 // The limits, the bits that wait for the next settled one, and the count of settled bits.
-#[derive(Drop)]
+#[derive(Clone, Copy)]
 pub struct Coder {
     pub low: u32,
     pub high: u32,
@@ -19,7 +19,7 @@ pub struct Coder {
 }
 
 // A symbol's part of the frequencies: those before it, its own, and all together.
-#[derive(Drop)]
+#[derive(Clone, Copy)]
 pub struct Span {
     pub start: u32,
     pub weight: u32,

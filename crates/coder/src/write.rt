@@ -28,7 +28,7 @@ pub struct Writer {
 }
 
 // Plain values by their width.
-#[derive(Drop)]
+#[derive(Clone, Copy)]
 pub enum Width {
     U8,
     U16,
