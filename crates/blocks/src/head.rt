@@ -19,7 +19,7 @@ pub(crate) const DATA_SIZE_AT: usize = 4;
 const META_SIZE_AT: usize = 8;
 
 // A block's leading numbers: its type, data size and meta data size.
-#[derive(Drop)]
+#[derive(Clone, Copy)]
 pub struct Head {
     pub block_type: u32,
     pub data_size: u32,
@@ -62,7 +62,7 @@ pub(crate) fn head_at(s: &[u8], at: usize) -> HeadAnswer
 }
 
 // Where the parts of a block end: its data, the padding after it, its meta data, the padding after that.
-#[derive(Drop)]
+#[derive(Clone, Copy)]
 pub struct Extent {
     pub data_end: usize,
     pub meta_at: usize,

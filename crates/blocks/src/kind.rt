@@ -9,7 +9,7 @@ pub const MODIFIER_CHAIN: u32 = 0xFFFFFF14;
 // The known types but the header's are this one and a last byte.
 pub const KNOWN_TYPES: u32 = 0xFFFFFF00;
 
-#[derive(Drop)]
+#[derive(Clone, Copy)]
 pub enum Kind {
     Header,
     Declaration(u32),

@@ -11,7 +11,7 @@ use text::line::{put_decimal, put_hex, put_word};
 pub const ROW_WIDTH: usize = 5;
 
 // A block's row: its offset, type, data size, meta data size, and its depth from 0.
-#[derive(Drop)]
+#[derive(Clone, Copy)]
 pub struct Row {
     pub offset: u32,
     pub block_type: u32,
