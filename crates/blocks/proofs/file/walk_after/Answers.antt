@@ -14,7 +14,7 @@ walk-requires c =
 pub returns : goal.returns
 returns c =
     let a = c.args in
-    let e = after_first_lem a.file.now a.first a.lines a.table.now a.text.now c.tell_first-told.new.0 c.tell_first-told.new.1.0 c.row_of.result c.tell_first-told.result
+    let e = after_first_lem a.file.now a.first a.lines a.table.now a.text.now c.tell_first-told.new.table c.tell_first-told.new.text c.row_of.result c.tell_first-told.result
     c.row_of.ensures c.tell_first-told.ensures.value c.tell_first-told.ensures.table_after c.tell_first-told.ensures.text_after in
     let w = c.walk.ensures in
     record { result_value = w.result_value ∙ ap answer_of (sym e); table_after = w.table_after ∙ ap (λ (r : Stored). r.table) (sym e); text_after = w.text_after ∙ ap (λ (r : Stored). r.text) (sym e); told_fits = fits_more _ _ c.walk.result c.requires.2 w.told_fits }

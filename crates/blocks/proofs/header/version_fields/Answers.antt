@@ -29,4 +29,4 @@ returns-in-0 c = simp (told (u16_given _) c.u16_at.ensures c.in-Value.is, eq-eqb
 
 pub returns-in_default-profile : goal.returns-in_default-profile
 unfolding version_of u16_given u32_given
-returns-in_default-profile c = simp (told (u16_given _) c.u16_at.ensures c.in-Value.is, eq-eqb _ _ c.if-major-ne0.false, told (u16_given _) c.u16_at-2.ensures c.in-Value-u16_at.is, told (u32_given _) c.u32_at.ensures c.in-Value-u32_at.is) (rw (none_of c.in-Value-u32_at.profile 0 (2 ∷ 8 ∷ 10 ∷ []) c.in_default-profile.rest.1))
+returns-in_default-profile c = simp (told (u16_given _) c.u16_at.ensures c.in-Value.is, eq-eqb _ _ c.if-major-ne0.false, told (u16_given _) c.u16_at-2.ensures c.in-Value-u16_at.is, told (u32_given _) c.u32_at.ensures c.in-Value-u32_at.is) (rw (none_of c.in-Value-u32_at.profile 0 (2 ∷ 8 ∷ 10 ∷ []) c.in_default-profile.in_default-profile-own.rest.1))

@@ -5,4 +5,4 @@ use Rattle.blocks.proofs.parts.data_part.Goals as goal
 
 pub returns : goal.returns
 unfolding data_part
-returns c = rw (sym c.bounds_of_data.ensures) c.part_of.ensures
+returns c = rw (sym c.data_bounds.ensures) c.part_of.ensures

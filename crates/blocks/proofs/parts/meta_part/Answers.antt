@@ -5,4 +5,4 @@ use Rattle.blocks.proofs.parts.meta_part.Goals as goal
 
 pub returns : goal.returns
 unfolding meta_part
-returns c = rw (sym c.bounds_of_meta.ensures) c.part_of.ensures
+returns c = rw (sym c.meta_bounds.ensures) c.part_of.ensures
