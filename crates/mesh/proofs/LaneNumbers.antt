@@ -1,5 +1,5 @@
 -- The numbers of a face, as they are read from a state in the reader's own form: the judged answers.
-use Prim.Native.Nat.{ℕ, zero, suc, ◌+◌, ◌*◌, ◌-◌, ◌/◌, ◌%◌, ◌^◌, ◌≤◌, ◌<◌}
+use Prim.Native.Nat.{ℕ, zero, suc, ◌+◌, ◌*◌, ◌-◌, ◌/◌, ◌^◌, ◌≤◌, ◌<◌}
 use mathlib.Core.Path.{◌≡◌, ◌∙◌, ap, refl, subst, sym}
 use mathlib.Core.Bool.{Bool, true, false}
 use mathlib.Core.List.{List, [], ◌∷◌}
@@ -12,8 +12,8 @@ use Rattle.fields.specs.Judged.{Judged, done, on_done, refused, refused_if}
 use Rattle.fields.specs.Numbers.{out_of_range, truncated}
 use Rattle.coder.specs.Bytes.{bit_at}
 use Rattle.coder.specs.Histogram.{Histogram, WellFormedHistogram, histogram_formed, span_of, sum, symbol_at, values}
-use Rattle.coder.specs.Inside.{Reading, found_as, value_number}
-use Rattle.coder.specs.Interval.{Codable, WellFormed, after_symbol, code, largest_range, narrow, postpones, settle_tops, target}
+use Rattle.coder.specs.Inside.{found_as, value_number}
+use Rattle.coder.specs.Interval.{Codable, WellFormed, after_symbol, code, largest_range, narrow, postpones, target}
 use Rattle.coder.specs.Reading.{read_fault, take_dynamic, take_number, take_static, taken, taken_histogram}
 use Rattle.coder.specs.Stream.{Stream}
 use Rattle.coder.specs.Symbols.{static_span}

@@ -6,7 +6,7 @@ use native.Mathlib.Nat.{mod-eq_of_lt, not-suc-le-zero}
 use native.Mathlib.Omega.{arith}
 use Rattle.coder.specs.Bytes.{bit_at}
 use Rattle.coder.specs.Inside.{Reading}
-use Rattle.coder.specs.Interval.{Inverted, code, fresh, postpones, settle_tops}
+use Rattle.coder.specs.Interval.{Inverted, code, fresh, settle_tops}
 use Rattle.coder.specs.Stream.{Stream, word}
 use Rattle.coder.specs.Together.{Agreeing, renormalized, settled_by}
 use Rattle.coder.specs.declared.interval.Coder.{Coder}

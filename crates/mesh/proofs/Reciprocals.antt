@@ -1,6 +1,6 @@
 -- A division by a range, by a product with its reciprocal.
 use Prim.Native.Nat.{ℕ, suc, ◌+◌, ◌*◌, ◌-◌, ◌/◌, ◌%◌, ◌^◌, ◌≤◌, ◌<◌}
-use mathlib.Core.Path.{◌≡◌, ◌∙◌, ap, refl, sym}
+use mathlib.Core.Path.{◌≡◌, ◌∙◌, ap, sym}
 use native.Mathlib.Nat.{add-mul, div-add-mod, div-le_of_le-mul, mod-lt, mul-add, mul_assoc, mul_comm, mul-le-mul, mul-le-mul_right, mul-one, one-mul}
 use native.Mathlib.Omega.{arith}
 use lib.Pow.{high}

@@ -1,17 +1,16 @@
 -- The turns after a symbol shift the interval's size and the place of a reader's number in it alike; the bits that come in are those after
 -- the sixteen that it has looked at.
-use Prim.Native.Nat.{ℕ, zero, suc, ◌+◌, ◌*◌, ◌-◌, ◌/◌, ◌%◌, ◌^◌, ◌≤◌, ◌<◌}
+use Prim.Native.Nat.{ℕ, zero, suc, ◌+◌, ◌*◌, ◌-◌, ◌/◌, ◌^◌, ◌≤◌, ◌<◌}
 use mathlib.Core.Path.{◌≡◌, ◌∙◌, ap, refl, sym}
-use native.Mathlib.Nat.{add-mul, add-zero, mul_assoc, mul-one, pow-suc, pow-zero}
+use native.Mathlib.Nat.{add-mul, add-zero, mul_assoc, mul-one, pow-zero}
 use native.Mathlib.Omega.{arith}
 use borrow.Author.Tests.{eqb-true}
 use lib.Pow.{high, pow-add}
-use Rattle.coder.specs.Inside.{Reading}
-use Rattle.coder.specs.Interval.{WellFormed, code, postpone, postpones, settle_top, settle_tops}
+use Rattle.coder.specs.Interval.{code, postpone, postpones, settle_top, settle_tops}
 use Rattle.coder.specs.Stream.{Binary, Stream, word}
 use Rattle.coder.specs.declared.interval.Coder.{Coder}
 use Rattle.coder.proofs.Forward.{Within, postpone-within, settle_within, settle_top-within, skipped}
-use Rattle.coder.proofs.Limits.{Ordered, postpone_cases, settle_cases, turned_wellformed}
+use Rattle.coder.proofs.Limits.{Ordered, postpone_cases, settle_cases}
 use Rattle.coder.proofs.Streams.{fifteen, sixteen, word_below}
 use Rattle.coder.proofs.Together.{twice}
 

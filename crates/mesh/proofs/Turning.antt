@@ -1,5 +1,5 @@
 -- How many turns follow a symbol: as many as leave an interval of that size within 16 bits.
-use Prim.Native.Nat.{ℕ, zero, suc, ◌+◌, ◌*◌, ◌-◌, ◌/◌, ◌%◌, ◌^◌, ◌≤◌, ◌<◌}
+use Prim.Native.Nat.{ℕ, zero, suc, ◌+◌, ◌*◌, ◌-◌, ◌%◌, ◌^◌, ◌≤◌, ◌<◌}
 use mathlib.Core.Bool.{Bool, true, false}
 use mathlib.Core.Path.{◌≡◌, ◌∙◌, ap, refl, sym}
 use native.Mathlib.Nat.{add-mul, le_of_suc-le-suc, lt_of_not-le, mod-eq_of_lt, mul-le-mul_right, one-mul, suc-add, zero-add}

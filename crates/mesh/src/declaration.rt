@@ -48,7 +48,7 @@ const CLOSING: [u32; 42] = [
 ];
 
 // A mesh declaration. Its name stands after the two bytes of its length. Inverse quants and parameters are F32 bit patterns.
-#[derive(Drop)]
+#[derive(Clone, Copy)]
 pub struct Declaration {
     pub name_size: usize,
     pub chain_index: u32,

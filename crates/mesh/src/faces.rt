@@ -26,7 +26,7 @@ const CORNER_NUMBERS: usize = 3 * CORNER_FIELDS;
 pub const ABSENT: u32 = 0xFFFFFFFF;
 
 // What a face asks of its corners.
-#[derive(Drop)]
+#[derive(Clone, Copy)]
 pub struct CornerForm {
     pub mesh_attributes: u32,
     pub shading_attributes: u32,

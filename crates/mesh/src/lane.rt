@@ -18,7 +18,7 @@ use fields::numbers::{OUT_OF_RANGE, TRUNCATED};
 const U32_BYTES: u32 = 4;
 
 // Low limit, the interval's size, the reader's number from low on; the settled bits, and these with the pending ones.
-#[derive(Drop)]
+#[derive(Clone, Copy)]
 pub(crate) struct Lane {
     pub low: u32,
     pub size: u32,

@@ -19,7 +19,7 @@ pub const SHADINGS: usize = 64;
 const RULES: [u32; 6] = [ANY, 0, 3, LAYERS as u32, 0, ANY];
 
 // A shading description; the dimensions of layers past the layer count are 0.
-#[derive(Drop)]
+#[derive(Clone, Copy)]
 pub struct Shading {
     // Bit 0 diffuse colors, bit 1 specular colors.
     pub attributes: u32,

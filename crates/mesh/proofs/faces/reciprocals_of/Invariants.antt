@@ -1,0 +1,12 @@
+use Prim.Native.Nat.{ℕ, ◌*◌, ◌-◌, ◌≤◌, ◌<◌}
+use mathlib.Core.Path.{◌≡◌}
+use lib.ListN.{get_or, length}
+use Rattle.mesh.specs.Corners.{corner_fields}
+use Rattle.mesh.specs.Lanes.{reciprocal_of}
+use Rattle.mesh.proofs.faces.reciprocals_of.Given as goal
+
+abbrev pub invariant-loop-n : goal.invariant-loop-n
+invariant-loop-n l = (l.n ≤ 3 * corner_fields) × (length l.reciprocals ≡ 3 * corner_fields) × ((m : ℕ) → m < l.n → get_or l.reciprocals m 0 ≡ reciprocal_of (get_or l.ranges m 0))
+
+abbrev pub decreases-loop-n : goal.decreases-loop-n
+decreases-loop-n l = 3 * corner_fields - l.n
