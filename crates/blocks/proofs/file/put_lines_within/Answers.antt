@@ -22,14 +22,17 @@ module _ (c : After-lacks) where
   tested : c.lacks.result ≡ ltb (length c.args.text.now) (needed c.args.file.now c.args.text.now c.args.after c.args.counted measured)
   tested = c.lacks.ensures ∙ ap (λ (n : ℕ). ltb (length c.args.text.now) (measured.bytes + (c.args.after + n))) c.count_size.ensures
 
--- conv: clauses ['result_value', 'text_after']
 pub returns-then-lacks : goal.returns-then-lacks
-returns-then-lacks c = let a = c.args in lines_short a.file.now a.text.now a.after a.counted (measured (goal.at.returns-then-lacks c).After-lacks) (lines (goal.at.returns-then-lacks c).After-lacks) (sym (tested (goal.at.returns-then-lacks c).After-lacks) ∙ c.if-lacks.true)
+returns-then-lacks c =
+    let a = c.args in let q = lines_short a.file.now a.text.now a.after a.counted (measured (goal.at.returns-then-lacks c).After-lacks) (lines (goal.at.returns-then-lacks c).After-lacks) (sym (tested (goal.at.returns-then-lacks c).After-lacks) ∙ c.if-lacks.true) in
+    record { result_value = q.0; text_after = q.1 }
 
--- conv: clauses ['result_value', 'text_after']
 pub returns-in-Refused : goal.returns-in-Refused
-returns-in-Refused c = let a = c.args in lines_refused a.file.now a.text.now a.after a.counted _ _ (told lines_given c.lines_size.ensures c.in-Refused.is)
+returns-in-Refused c =
+    let a = c.args in let q = lines_refused a.file.now a.text.now a.after a.counted _ _ (told lines_given c.lines_size.ensures c.in-Refused.is) in
+    record { result_value = q.0; text_after = q.1 }
 
--- conv: clauses ['result_value', 'text_after']
 pub returns-else-lacks : goal.returns-else-lacks
-returns-else-lacks c = let a = c.args in lines_done a.file.now a.text.now a.after a.counted (measured (goal.at.returns-else-lacks c).After-lacks) _ (lines (goal.at.returns-else-lacks c).After-lacks) (sym (tested (goal.at.returns-else-lacks c).After-lacks) ∙ c.if-lacks.false) (c.walk_file.ensures.text_after ∙ lines_stored a.file.now _ a.text.now)
+returns-else-lacks c =
+    let a = c.args in let q = lines_done a.file.now a.text.now a.after a.counted (measured (goal.at.returns-else-lacks c).After-lacks) _ (lines (goal.at.returns-else-lacks c).After-lacks) (sym (tested (goal.at.returns-else-lacks c).After-lacks) ∙ c.if-lacks.false) (c.walk_file.ensures.text_after ∙ lines_stored a.file.now _ a.text.now) in
+    record { result_value = q.0; text_after = q.1 }
