@@ -17,7 +17,7 @@ use Rattle.blocks.specs.Kind.{header_type}
 use Rattle.blocks.specs.Head.{head_size, data_size_at, head_at, extent_of, room_of, paddings_of}
 use Rattle.blocks.specs.Header.{least_data, data_size_of, version_of, sizes_of, fields_of, rest_of, sized_of, judged_of, first_of}
 use Rattle.blocks.specs.Block.{levels}
-use Rattle.blocks.specs.Walk.{row_of, walk_of, ends}
+use Rattle.blocks.specs.Walk.{row_of, walk_of}
 use Rattle.blocks.specs.Told.{row_width, row_words, all_of}
 use Rattle.blocks.specs.Inside.{bytes_of, told_with, stored, answer_of, ToldFits, none_told, told_of}
 use Rattle.blocks.specs.File.{after_first, file_of, file_words, walk_in, file_lines, lines_of, lines_in, count_size, lines_within}

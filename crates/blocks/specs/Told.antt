@@ -1,5 +1,5 @@
 -- How rows are told (01: "offset, type in lower-case hex, data, meta, depth from 0"): five words of a table each, or a line of text.
-use Rattle.std.specs.Prelude.{ℕ, ◌+◌, List, [], ◌∷◌, ◌++◌}
+use Rattle.std.specs.Prelude.{ℕ, List, [], ◌∷◌, ◌++◌}
 use Rattle.text.specs.Digits.{decimal_field, hex_field}
 use Rattle.blocks.specs.declared.tell.Row.{Row}
 

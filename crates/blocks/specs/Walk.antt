@@ -1,5 +1,5 @@
 -- The walk over a sequence of blocks (01, "Blocks", and the listing of "Examples on each side").
-use Rattle.std.specs.Prelude.{ℕ, zero, suc, ◌+◌, ◌-◌, List, [], ◌∷◌, ◌++◌, Bool, false, eqb, length, take}
+use Rattle.std.specs.Prelude.{ℕ, zero, suc, ◌-◌, List, [], ◌∷◌, ◌++◌, Bool, false, eqb, length, take}
 use Rattle.fields.specs.Numbers.{bad_chain}
 use Rattle.fields.specs.Judged.{Judged, done, refused, pick}
 use Rattle.blocks.specs.Padding.{fine}

@@ -6,7 +6,6 @@ use Rattle.climb.proofs.Climbs.{end_bad, end_done, end_more}
 use Rattle.climb.proofs.Lines.{row_refused, row_told}
 use Rattle.climb.proofs.steps.read_end.Goals as goal
 
--- conv: clauses ['at_in_bounds', 'count_bound']
 pub read_row-requires : goal.read_row-requires
 unfolding is_word
 read_row-requires c = search rules

@@ -45,7 +45,6 @@ faces-of c =
     let r = c.read_rows-in-Read in
     taken_told a.text.now _ _ c.in-Read.second.to _ r.result r.ensures.table_after _ _ c.in-Read-read_rows.is
 
--- conv: clauses ['at_in_bounds', 'count_bound']
 pub read_row-requires : goal.read_row-requires
 unfolding is_word
 read_row-requires c = search rules

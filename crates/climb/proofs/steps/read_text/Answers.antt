@@ -22,7 +22,6 @@ head-of c =
     let r = c.read_row in
     row_told a.text.now head_form 1 0 0 (0 ∷ 0 ∷ 0 ∷ []) _ r.result (r.ensures.row_read 1) _ c.in-Next.is
 
--- conv: clauses ['at_in_bounds', 'count_bound']
 pub read_row-requires : goal.read_row-requires
 unfolding is_word
 read_row-requires c = search rules

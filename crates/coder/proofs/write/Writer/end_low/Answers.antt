@@ -9,7 +9,6 @@ returns-then-not-has_room c =
     let a = c.args in
     low_refused a.buf.now a.self _ c.low_ended-next.ensures (sym c.has_room.ensures ∙ c.if-not-has_room.true)
 
--- conv: clauses ['low_bound', 'buf_len_bound']
 pub put_tops-requires : goal.put_tops-requires
 put_tops-requires c =
     let a = c.args in
