@@ -2,7 +2,7 @@
 use fields::numbers::Refusal;
 
 // The present numbers of positions and faces.
-#[derive(Drop)]
+#[derive(Clone, Copy)]
 pub struct Counts {
     pub positions: u32,
     pub faces: u32,

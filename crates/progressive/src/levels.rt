@@ -14,7 +14,7 @@ const MARKS: usize = MOST_STEPS as usize / MARK_STEPS;
 
 // The steps of a list that are noted, every MARK_STEPS of them: whether the list has its form, and if so their offsets and the numbers of
 // faces before them.
-#[derive(Drop)]
+#[derive(Clone, Copy)]
 pub struct Marks {
     pub formed: bool,
     pub offsets: [u32; MARKS],
@@ -22,7 +22,7 @@ pub struct Marks {
 }
 
 // A step's offset, and the number of faces before it.
-#[derive(Drop)]
+#[derive(Clone, Copy)]
 pub struct StepSpot {
     pub offset: usize,
     pub faces: usize,
