@@ -1,6 +1,6 @@
 -- Laws of `writes` and `shows`: stores at distinct indices can be read back, leave the rest as it was and are undone by the stores of what
 -- stood there.
-use Rattle.std.proofs.Common.{◌≡◌, ℕ, zero, suc, ◌+◌, ◌-◌, ◌<◌, ◌≤◌, Bool, true, false, ◌&&◌, eqb, ◌≢◌, List, length, get_or, set, sym, refl, ap, ◌∙◌, ⊎_elim, le_of_suc-le-suc, not-suc-le-zero, eq-or-lt_of_le, add-one, arith, length-set, get_or-set_other, get_or-set_same, set-set, eq-eqb, ne_eqb, eqb-true}
+use Rattle.std.proofs.Common.{◌≡◌, ℕ, zero, suc, ◌+◌, ◌-◌, ◌<◌, ◌≤◌, Bool, true, false, ◌&&◌, eqb, ◌≢◌, List, length, get_or, set, subst, sym, refl, ap, ◌∙◌, ⊎_elim, le_of_suc-le-suc, not-suc-le-zero, eq-or-lt_of_le, add-one, arith, length-set, get_or-set_other, get_or-set_same, set-set, eq-eqb, ne_eqb, eqb-true}
 use mathlib.Core.Bool.{and-false, and-true}
 use native.Mathlib.Numerals.{unary_clauses}
 use lib.Seq.{set-get_or, set_comm}
@@ -85,13 +85,20 @@ with_later : (at : ℕ) (val : ℕ → ℕ) (k v : ℕ) (l : List ℕ) (n : ℕ)
 with_later at val k v l zero h = refl
 with_later at val k v l (suc n) h = rw (with_later at val k v l n (omega arith), ne_eqb n k (λ e. omega arith))
 
+-- another last value is one more store
+with_last : (at : ℕ) (val : ℕ → ℕ) (v : ℕ) (l : List ℕ) (n : ℕ)
+    → writes (from at) (values_with val n v) l (suc n) ≡ set (writes (from at) val l (suc n)) (at + n) v
+with_last at val v l n =
+    rw (eq-eqb n n refl, set-set) (ap (λ (m : List ℕ). set m (at + n) v) (with_later at val n v l n (omega arith)))
+
 -- another value at k is one more store
 pub writes_with : (at : ℕ) (val : ℕ → ℕ) (k v : ℕ) (l : List ℕ) (n : ℕ) → k < n
     → writes (from at) (values_with val k v) l n ≡ set (writes (from at) val l n) (at + k) v
 writes_with at val k v l zero h = absurd (not-suc-le-zero h)
 writes_with at val k v l (suc n) h =
     ⊎_elim
-    (λ q. rw (q, with_later at val n v l n (omega arith), eq-eqb n n refl, set-set))
+    (λ q.
+    subst (λ (j : ℕ). writes (from at) (values_with val j v) l (suc n) ≡ set (writes (from at) val l (suc n)) (at + j) v) (sym q) (with_last at val v l n))
     (λ c.
     rw (writes_with at val k v l n c, ne_eqb n k (λ e. omega arith)) (set_comm (writes (from at) val l n) (at + k) (at + n) v (val n) (λ e. omega arith)))
     (eq-or-lt_of_le (le_of_suc-le-suc h))

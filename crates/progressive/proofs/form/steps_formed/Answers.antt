@@ -1,5 +1,5 @@
 -- The invariant: the walk over the table stands at step k, all steps before it are formed, and the marks among them are noted.
-use Rattle.std.proofs.Common.{◌+◌, ◌-◌, sym, ◌∙◌, arith}
+use Rattle.std.proofs.Common.{◌+◌, sym, ◌∙◌, arith}
 use mathlib.Core.Bool.{false≢true}
 use Rattle.progressive.proofs.Formed.{formed, walk_ends, walk_fails, walk_few, walk_on, walk_short, walk_starts}
 use Rattle.progressive.proofs.Marking.{Noting, noting_done, noting_more, noting_none}

@@ -36,5 +36,5 @@ returns c =
     (formed_by_steps c.args.steps.now c.number.ensures.0 c.number-2.ensures.0 c.number-count.ensures.0
     c.if-steps-lt-HEAD_WORDS.false c.if-number-gt-LARGEST_COUNT.false c.if-number-gt-LARGEST_COUNT-2.false c.if-count-gt-MOST_STEPS.false
     c.steps_formed.ensures.0)
-    c.number-count.ensures.0 (omega (arith, c.requires.0, same_length c))
-    (omega (arith, c.requires.1, same_length c, same-length-2 c)) c.steps_formed.ensures.1
+    c.number-count.ensures.0 (omega (arith, c.requires.0))
+    (omega (arith, c.requires.1)) c.steps_formed.ensures.1

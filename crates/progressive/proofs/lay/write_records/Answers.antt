@@ -1,5 +1,5 @@
 -- The invariant: the records of the first faces are written, and the rest of the table is as it was.
-use Rattle.std.proofs.Common.{◌-◌, ◌*◌, arith, rules}
+use Rattle.std.proofs.Common.{◌*◌, arith, rules}
 use Rattle.mesh.specs.Corners.{face_words}
 use Rattle.progressive.proofs.Indexed.{written_done, written_none}
 use Rattle.progressive.proofs.Laying.{records_written}

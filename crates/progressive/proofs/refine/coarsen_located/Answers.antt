@@ -19,7 +19,8 @@ level-of c =
 above_of : (c : Else-place-eq0) → (let a = c.args in AboveBase a.steps.now a.counts.faces a.counts.positions c.in-At.place)
 above_of c =
     let a = c.args in
-    above_base a.steps.now a.counts.faces a.counts.positions (level-of c.before.before) c.if-place-eq0.false
+    let level = at_level a.steps.now a.counts.faces a.counts.positions c.in-At.place (sym (told located_given c.requires c.in-At.is)) in
+    above_base a.steps.now a.counts.faces a.counts.positions level c.if-place-eq0.false
 
 pub returns-then-place-eq0 : goal.returns-then-place-eq0
 returns-then-place-eq0 c =

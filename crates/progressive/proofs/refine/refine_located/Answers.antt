@@ -20,7 +20,8 @@ level-of c =
 next_of : (c : Else-place-number) → (let a = c.args in step_formed a.steps.now c.in-At.place.next ≡ true)
 next_of c =
     let a = c.args in
-    next_formed a.steps.now a.counts.faces a.counts.positions (level-of c.before.before.before) c.number.ensures.0 c.if-place-number.false
+    let level = at_level a.steps.now a.counts.faces a.counts.positions c.in-At.place (sym (told located_given c.requires c.in-At.is)) in
+    next_formed a.steps.now a.counts.faces a.counts.positions level c.number.ensures.0 c.if-place-number.false
 
 pub returns-then-place-number : goal.returns-then-place-number
 returns-then-place-number c =

@@ -1,5 +1,5 @@
 -- The invariant: the records so far are those of the new faces.
-use Rattle.std.proofs.Common.{◌-◌, ◌*◌, arith, rules}
+use Rattle.std.proofs.Common.{◌*◌, arith, rules}
 use Rattle.mesh.specs.Corners.{face_words}
 use Rattle.progressive.specs.Indexed.{from}
 use Rattle.progressive.specs.Laying.{new_face_number}
