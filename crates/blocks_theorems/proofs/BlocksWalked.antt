@@ -15,7 +15,7 @@ use Rattle.fields.specs.Limits.{largest_file}
 use Rattle.blocks.specs.Kind.{chain_type, class_of, kind_of, is_chain, is_continuation}
 use Rattle.blocks.specs.Head.{extent_of}
 use Rattle.blocks.specs.Block.{levels, standing_of, block_of, contents_at, judged_at, block_at}
-use Rattle.blocks.specs.Walk.{Outcome, tells, ends, and_then, file_ends, blocks_of, inside_of, walk_of}
+use Rattle.blocks.specs.Walk.{Outcome, tells, and_then, file_ends, blocks_of, inside_of, walk_of}
 use Rattle.blocks.specs.declared.kind.Kind.{Kind}
 use Rattle.blocks.specs.declared.kind.Kind.TheVariants.{Header, Declaration, Continuation, Unknown}
 use Rattle.blocks.specs.declared.chain.Run.{Run}
@@ -44,6 +44,7 @@ each_passes test [] = true
 each_passes test (y ∷ ys) = test y && each_passes test ys
 
 passes : (test : ℕ → Bool) (x : ℕ) (ys : List ℕ) → each_passes test ys ≡ true → OneOf x ys → test x ≡ true
+passes test x [] e o = elim o [ ]
 passes test x (y ∷ ys) e (inl o) = rw o ((and-eq-true_iff (test y) (each_passes test ys)).0 e).0
 passes test x (y ∷ ys) e (inr o) = passes test x ys ((and-eq-true_iff (test y) (each_passes test ys)).0 e).1 o
 

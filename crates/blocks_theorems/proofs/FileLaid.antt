@@ -65,6 +65,7 @@ module _ (s : List ℕ) (profile pattern : ℕ) (bytes : Bytes s) (read : units_
   units_laid (inr (inl e)) = without (rw e) (inr (inl e))
   units_laid (inr (inr (inl e))) = with_units (rw e) (inl e)
   units_laid (inr (inr (inr (inl e)))) = with_units (rw e) (inr (inl e))
+  units_laid (inr (inr (inr (inr o)))) = elim o [ ]
 
 -- ---- the file that was walked
 

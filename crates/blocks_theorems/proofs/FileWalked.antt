@@ -53,8 +53,10 @@ profiled : (x : ℕ) (units : Units) → OneOf x (profiles_of units) → Profile
 unfolding has_units
 profiled x unitless (inl e) = rw e (without 0 refl (omega arith) refl)
 profiled x unitless (inr (inl e)) = rw e (without 2 refl (omega arith) refl)
+profiled x unitless (inr (inr o)) = elim o [ ]
 profiled x (scaled factor) (inl e) = rw e (with_units 8 refl (omega arith) factor refl)
 profiled x (scaled factor) (inr (inl e)) = rw e (with_units 10 refl (omega arith) factor refl)
+profiled x (scaled factor) (inr (inr o)) = elim o [ ]
 
 pub length_units : (units : Units) → 24 + length (units_bytes units) ≡ header_data_size units
 length_units unitless = refl

@@ -37,7 +37,7 @@ module _ (s : List ℕ) (row : Row) (small : length s ≤ largest_file) (h : Sta
         le-ltb (length s) (at + 4) (omega arith),
         le-ltb (length s) (at + 4 + 4) (omega arith),
         le-ltb (length s) (at + 8 + 4) (omega arith),
-        h.block-type,
+        h.block_type,
         h.data_size,
         h.meta_size,
       )
