@@ -1,5 +1,4 @@
 -- The invariant: what is left of both is the same just where both are.
-use Prim.Native.Nat.{◌-◌}
 use mathlib.Core.Path.{◌∙◌, refl, sym}
 use native.Mathlib.Omega.{arith}
 use Rattle.fields.proofs.Names.{same_lengths, same_more, same_none, same_stopped}

@@ -1,7 +1,6 @@
 -- `fields::put_word` meets its contract. The invariant: what is to be stored onto the text at the start is what is still to be stored onto
 -- the present text. Assumes nothing.
 use mathlib.Core.Path.{refl, sym, ◌∙◌}
-use Prim.Native.Nat.{◌-◌}
 use native.Mathlib.Omega.{arith}
 use borrow.Author.Rules.{rules}
 use Rattle.text.proofs.Stores.{stored_length, word_none, word_turn, word_done}

@@ -58,8 +58,11 @@ returns-then-left-eq0 c =
     let l = c.loop-left in
     let a = c.args in
     let more = plain_spans a.count a.value in
-    let put = c.put_renormalized-s.ensures in record { value = put.value ∙ after_plain_none l.left l.rest _ (search rules) ∙ l.invariant.state ∙ led_state a.self _ a.span more c.narrowed-s.ensures; buf_after = put.buf_after ∙ put_plain_none l.left l.rest (renormalized l.s) _ (search rules) ∙ l.invariant.same
-          ∙ led_bits a.self _ a.span more a.buf.now c.narrowed-s.ensures }
+    let put = c.put_renormalized-s.ensures in record {
+      value = put.value ∙ after_plain_none l.left l.rest _ (search rules) ∙ l.invariant.state ∙ led_state a.self _ a.span more c.narrowed-s.ensures;
+      buf_after = put.buf_after ∙ put_plain_none l.left l.rest (renormalized l.s) _ (search rules) ∙ l.invariant.same
+          ∙ led_bits a.self _ a.span more a.buf.now c.narrowed-s.ensures;
+    }
 
 pub narrowed-s-requires-in-loop-left : goal.narrowed-s-requires-in-loop-left
 narrowed-s-requires-in-loop-left c = record { well_formed = rw c.put_renormalized-s.ensures.value c.loop-left.invariant.formed; codable = rw c.byte_span.ensures (byte_codable _) }
