@@ -27,8 +27,11 @@ within c = let a = c.args in head_within a.s.now a.name.now a.declaration _ (hea
 pub returns-then-not-has_room : goal.returns-then-not-has_room
 returns-then-not-has_room c =
     let a = c.args in
-    let f = sym c.has_room.ensures ∙ c.if-not-has_room.true in record { result_value = judged_refused a.s.now a.declaration c.refused_head-then-not-has_room.result _ _ c.refused_head-then-not-has_room.ensures
-          ∙ sym (base_full a.s.now a.name.now a.declaration a.lengths _ _ (head-of (goal.at.returns-then-not-has_room c).After-has_room) f); judged_fits = λ x g. not_done (ended_at _ _ c.refused_head-then-not-has_room.ensures g) }
+    let f = sym c.has_room.ensures ∙ c.if-not-has_room.true in record {
+      result_value = judged_refused a.s.now a.declaration c.refused_head-then-not-has_room.result _ _ c.refused_head-then-not-has_room.ensures
+          ∙ sym (base_full a.s.now a.name.now a.declaration a.lengths _ _ (head-of (goal.at.returns-then-not-has_room c).After-has_room) f);
+      judged_fits = λ x g. not_done (ended_at _ _ c.refused_head-then-not-has_room.ensures g);
+    }
 
 pub overflow_add-at : goal.overflow_add-at
 overflow_add-at c = omega (arith, within (goal.at.overflow_add-at c).After-has_room, c.requires, c.words_before.ensures)
@@ -41,15 +44,21 @@ returns-then-s-at c =
     let a = c.args in
     let f = sym c.has_room.ensures ∙ c.if-not-has_room.false in
     let w = c.words_before.ensures.0 in
-    let cut = contents_cut a.s.now a.declaration c.read_head-head.result.counts _ c.type_inv.s (within (goal.at.returns-then-s-at c).After-has_room) (rw w at c.if-s-at.true) in record { result_value = judged_refused a.s.now a.declaration c.refused_head-then-s-at.result _ _ c.refused_head-then-s-at.ensures
-          ∙ sym (base_contents a.s.now a.name.now a.declaration a.lengths _ _ (head-of (goal.at.returns-then-s-at c).After-has_room) f ∙ cut); judged_fits = λ x g. not_done (ended_at _ _ c.refused_head-then-s-at.ensures g) }
+    let cut = contents_cut a.s.now a.declaration c.read_head-head.result.counts _ c.type_inv.s (within (goal.at.returns-then-s-at c).After-has_room) (rw w at c.if-s-at.true) in record {
+      result_value = judged_refused a.s.now a.declaration c.refused_head-then-s-at.result _ _ c.refused_head-then-s-at.ensures
+          ∙ sym (base_contents a.s.now a.name.now a.declaration a.lengths _ _ (head-of (goal.at.returns-then-s-at c).After-has_room) f ∙ cut);
+      judged_fits = λ x g. not_done (ended_at _ _ c.refused_head-then-s-at.ensures g);
+    }
 
 pub returns-in-Refused : goal.returns-in-Refused
 returns-in-Refused c =
     let a = c.args in
     let h = c.read_head-head in
-    let e = ended_refused h.result.next h.result.counts h.ensures c.in-Refused.is in record { result_value = judged_refused a.s.now a.declaration c.refused_head.result _ _ c.refused_head.ensures
-          ∙ sym (base_refused a.s.now a.name.now a.declaration a.lengths _ _ e); judged_fits = λ x g. not_done (ended_at _ _ c.refused_head.ensures g) }
+    let e = ended_refused h.result.next h.result.counts h.ensures c.in-Refused.is in record {
+      result_value = judged_refused a.s.now a.declaration c.refused_head.result _ _ c.refused_head.ensures
+          ∙ sym (base_refused a.s.now a.name.now a.declaration a.lengths _ _ e);
+      judged_fits = λ x g. not_done (ended_at _ _ c.refused_head.ensures g);
+    }
 
 pub returns-else-s-at : goal.returns-else-s-at
 unfolding judged_given
@@ -58,8 +67,11 @@ returns-else-s-at c =
     let counts = c.read_head-head.result.counts in
     let at = c.in-At.at in
     let f = sym c.has_room.ensures ∙ c.if-not-has_room.false in
-    let p = rw c.words_before.ensures.0 at c.if-s-at.false in record { result_value = sym (base_contents a.s.now a.name.now a.declaration a.lengths _ _ (head-of (goal.at.returns-else-s-at c).After-has_room) f
-          ∙ contents_faces a.s.now a.declaration counts at c.type_inv.s p); judged_fits = λ x g.
+    let p = rw c.words_before.ensures.0 at c.if-s-at.false in record {
+      result_value = sym (base_contents a.s.now a.name.now a.declaration a.lengths _ _ (head-of (goal.at.returns-else-s-at c).After-has_room) f
+          ∙ contents_faces a.s.now a.declaration counts at c.type_inv.s p);
+      judged_fits = λ x g.
           let same : x ≡ at = cc in
           let few = counts_small a.s.now a.name.now a.declaration _ (head-of (goal.at.returns-else-s-at c).After-has_room) 0 in
-          rw same (record { within = p; room = room_at a.lengths counts f; few = few }) }
+          rw same (record { within = p; room = room_at a.lengths counts f; few = few });
+    }

@@ -85,11 +85,14 @@ read_corners-requires c =
     let l = c.loop-i in
     let i = l.invariant in
     let e = subst (ShadingTaken a.declaration.shading_count l.histogram a.input.now l.lane _ _) c.in-Got.is c.take_shading-taken.ensures in
-    let f = e.1 in record { ready = (
+    let f = e.1 in record {
+      ready = (
         record { tracks = f.0.tracks; small = c.requires.2; within = f.1; few = omega (arith, f.0.near, f.0.kept, i.near, i.few, i.most) },
         omega (arith, f.0.near, f.0.kept, i.near, i.few, i.most),
         omega (arith, i.few, i.most),
-      ); ranges_len = (c.ranges_of-ranges.ensures.1, c.reciprocals_of-reciprocals.ensures.1, c.reciprocals_of-reciprocals.ensures.0) }
+      );
+      ranges_len = (c.ranges_of-ranges.ensures.1, c.reciprocals_of-reciprocals.ensures.1, c.reciprocals_of-reciprocals.ensures.0);
+    }
 
 pub shape_of-table-in-Refused : goal.shape_of-table-in-Refused
 shape_of-table-in-Refused c = c.read_corners.auto.table ∙ (ap length c.put.ensures ∙ simp length-set c.loop-i.invariant.long)

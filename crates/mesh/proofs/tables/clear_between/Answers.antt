@@ -16,8 +16,8 @@ loop-i-preserved c =
     let t = c.args.table.now in (
       search rules,
       elim c.if-table-i-ne0.branch [
-        then-table-i-ne0 w ↦ λ e. absurd (false≢true (sym w.clear-is ∙ e))
-      | else-table-i-ne0 w ↦ λ e z. clear_one t l.i (omega arith) (l.invariant.1 (sym w.clear-is ∙ e) z) w.if-table-i-ne0.false
+        | then-table-i-ne0 w ↦ λ e. absurd (false≢true (sym w.clear-is ∙ e))
+        | else-table-i-ne0 w ↦ λ e z. clear_one t l.i (omega arith) (l.invariant.1 (sym w.clear-is ∙ e) z) w.if-table-i-ne0.false
       ],
     )
 
