@@ -32,7 +32,7 @@ impl Machine {
         }
     }
 
-    pub(crate) fn histogram(self, number: u32) -> [u32; SYMBOLS] {
+    pub(crate) fn histogram(&self, number: u32) -> [u32; SYMBOLS] {
         match number {
             0 => self.first,
             1 => self.second,

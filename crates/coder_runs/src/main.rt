@@ -12,11 +12,14 @@ use coder::histogram::SYMBOLS;
 use coder::interval::Coder;
 use coder::write::Writer;
 use fields::field::bytes_at;
-use input::Input;
+use input::{Input, argument_count};
 use machine::{Machine, ROOM};
 use print::{print_bytes, print_end, print_read, print_text, print_weights, print_write};
 use read::read_all;
 use record::{Call, RECORD_SIZE, call_at, in_range, is_dynamic};
+use std::env::Env;
+use std::io;
+use std::rt::Runtime;
 use write::write_all;
 
 // The state that a record gives; the next bits of the two counts stand in e.
@@ -72,7 +75,8 @@ fn with_context(call: Call, machine: Machine, histogram: [u32; SYMBOLS]) -> Mach
     machine
 }
 
-fn run_write(call: Call, machine: Machine) -> Machine {
+fn run_write(rt: &impl Print, call: Call, machine: Machine) -> io::Result<Machine> {
+    let mut machine = machine;
     let mut buffer = machine.buffer;
     let mut histogram = machine.histogram(call.a);
     let answer = write_all(
@@ -81,87 +85,91 @@ fn run_write(call: Call, machine: Machine) -> Machine {
         lent(&mut buffer, machine.length),
         &mut histogram,
     );
-    print_write(answer);
-    let next = machine.with_buffer(buffer).with_writer(answer.writer);
-    with_context(call, next, histogram)
+    print_write(rt, &answer)?;
+    machine.writer = answer.writer;
+    Ok(with_context(call, machine.with_buffer(buffer), histogram))
 }
 
-fn run_end(machine: Machine) -> Machine {
+fn run_end(rt: &impl Print, machine: Machine) -> io::Result<Machine> {
+    let mut machine = machine;
     let mut buffer = machine.buffer;
     let ended = machine.writer.finish(lent(&mut buffer, machine.length));
-    print_end(ended);
-    machine.with_buffer(buffer).with_writer(writer_after(ended))
+    print_end(rt, &ended)?;
+    machine.writer = writer_after(ended);
+    Ok(machine.with_buffer(buffer))
 }
 
-fn run_read(call: Call, machine: Machine) -> Machine {
+fn run_read(rt: &impl Print, call: Call, machine: Machine) -> io::Result<Machine> {
     let buffer = machine.buffer;
     let mut histogram = machine.histogram(call.a);
     let bytes = bytes_at(&buffer, 0, machine.length);
     let answer = read_all(call, machine.reader, bytes, &mut histogram);
-    print_read(answer, call.op == record::TAKE_DYNAMIC);
-    with_context(call, machine.with_reader(answer.state), histogram)
+    print_read(rt, answer, call.op == record::TAKE_DYNAMIC)?;
+    Ok(with_context(call, machine.with_reader(answer.state), histogram))
 }
 
-fn show_bytes(machine: Machine, length: usize) {
+fn show_bytes(rt: &impl Print, machine: &Machine, length: usize) -> io::Result<()> {
     let buffer = machine.buffer;
-    print_bytes(bytes_at(&buffer, 0, length));
+    print_bytes(rt, bytes_at(&buffer, 0, length))
 }
 
 // A record that is not in range is passed over.
-fn run_call(call: Call, machine: Machine) -> Machine {
+fn run_call(rt: &impl Print, call: Call, machine: Machine) -> io::Result<Machine> {
     if !in_range(call) {
-        return machine;
+        return Ok(machine);
     }
     let op = call.op;
     match op {
-        record::START..=record::SET_LENGTH => run_set(call, machine),
-        record::WRITE_STATIC..=record::WRITE_PLAIN => run_write(call, machine),
-        record::END => run_end(machine),
-        record::READ_STATIC..=record::TAKE_PLAIN => run_read(call, machine),
+        record::START..=record::SET_LENGTH => Ok(run_set(call, machine)),
+        record::WRITE_STATIC..=record::WRITE_PLAIN => run_write(rt, call, machine),
+        record::END => run_end(rt, machine),
+        record::READ_STATIC..=record::TAKE_PLAIN => run_read(rt, call, machine),
         record::SHOW_BYTES => {
-            show_bytes(machine, call.a as usize);
-            machine
+            show_bytes(rt, &machine, call.a as usize)?;
+            Ok(machine)
         }
         _ => {
-            print_weights(machine.histogram(call.a));
-            machine
+            print_weights(rt, machine.histogram(call.a))?;
+            Ok(machine)
         }
     }
 }
 
-fn run_script(script: &[u8]) {
+fn run_script(rt: &impl Print, script: &[u8]) -> io::Result<()> {
     let mut machine = Machine::fresh(ROOM, 0);
     let count = script.len() / RECORD_SIZE;
     let mut i: usize = 0;
     while i < count {
-        machine = run_call(call_at(script, i * RECORD_SIZE), machine);
+        machine = run_call(rt, call_at(script, i * RECORD_SIZE), machine)?;
         i += 1;
     }
+    Ok(())
 }
 
-fn print_name(i: usize) {
-    let mut name = io::buffer();
-    let length = os::arg(i, &mut name);
-    print_text(b"file\t");
-    print_text(&name[..length]);
-    print_text(b"\n");
+fn print_name(rt: &(impl Env + Print), i: usize) -> io::Result<()> {
+    let mut name = [0u8; 4096];
+    let length = rt.arg(i, &mut name).unwrap_or(0);
+    print_text(rt, b"file\t")?;
+    print_text(rt, &name[..length])?;
+    print_text(rt, b"\n")
 }
 
 // A script has at most 64 KiB.
-fn run(i: usize) {
+fn run(rt: &impl Runtime, i: usize) -> io::Result<()> {
     let mut script = [0u8; 65536];
-    let Input::Bytes(n) = input::read_file(i, &mut script) else {
-        return;
+    let Input::Bytes(n) = input::read_file(rt, i, &mut script) else {
+        return Ok(());
     };
-    print_name(i);
-    run_script(bytes_at(&script, 0, n));
+    print_name(rt, i)?;
+    run_script(rt, bytes_at(&script, 0, n))
 }
 
-fn main() {
-    let count = os::arg_count();
+fn main(rt: HostRuntime) -> io::Result<()> {
+    let count = argument_count(&rt);
     let mut i: usize = 1;
     while i < count {
-        run(i);
+        run(&rt, i)?;
         i += 1;
     }
+    Ok(())
 }

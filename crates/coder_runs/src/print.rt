@@ -4,96 +4,96 @@ use coder::ending::Ended;
 use coder::histogram::SYMBOLS;
 use coder::interval::Coder;
 use coder::write::Writer;
-use libc::STDOUT_FILENO;
+use std::io;
 
-pub(crate) fn print_text(text: &[u8]) {
-    io::write_all(STDOUT_FILENO, text);
+pub(crate) fn print_text(rt: &impl Print, text: &[u8]) -> io::Result<()> {
+    rt.write_all(text)
 }
 
-fn print_field(value: u64) {
-    print_text(b"\t");
-    io::print_decimal(STDOUT_FILENO, value);
+fn print_field(rt: &impl Print, value: u64) -> io::Result<()> {
+    print_text(rt, b"\t")?;
+    print!(rt; "{value}")
 }
 
-fn print_state(state: Coder) {
-    print_field(state.low as u64);
-    print_field(state.high as u64);
-    print_field(state.pending);
-    print_field(state.settled);
+fn print_state(rt: &impl Print, state: Coder) -> io::Result<()> {
+    print_field(rt, state.low as u64)?;
+    print_field(rt, state.high as u64)?;
+    print_field(rt, state.pending)?;
+    print_field(rt, state.settled)
 }
 
 // A writer's state, and 1 where a compressed value was written.
-fn print_writer(writer: Writer) {
+fn print_writer(rt: &impl Print, writer: &Writer) -> io::Result<()> {
     let state = writer.coder;
-    print_state(state);
+    print_state(rt, state)?;
     if writer.compressed {
-        print_text(b"\t1\n");
+        print_text(rt, b"\t1\n")
     } else {
-        print_text(b"\t0\n");
+        print_text(rt, b"\t0\n")
     }
 }
 
-pub(crate) fn print_write(answer: write::Answer) {
-    let writer = answer.writer;
-    print_text(b"write");
-    print_field(answer.number as u64);
-    print_writer(writer);
+pub(crate) fn print_write(rt: &impl Print, answer: &write::Answer) -> io::Result<()> {
+    print_text(rt, b"write")?;
+    print_field(rt, answer.number as u64)?;
+    print_writer(rt, &answer.writer)
 }
 
-fn print_ended(number: u32, bytes: usize, writer: Writer) {
-    print_text(b"end");
-    print_field(number as u64);
-    print_field(bytes as u64);
-    print_writer(writer);
+fn print_ended(rt: &impl Print, number: u32, bytes: usize, writer: &Writer) -> io::Result<()> {
+    print_text(rt, b"end")?;
+    print_field(rt, number as u64)?;
+    print_field(rt, bytes as u64)?;
+    print_writer(rt, writer)
 }
 
-pub(crate) fn print_end(ended: Ended) {
+pub(crate) fn print_end(rt: &impl Print, ended: &Ended) -> io::Result<()> {
     match ended {
-        Ended::Done(bytes, writer) => print_ended(0, bytes, writer),
-        Ended::Refused(number, writer) => print_ended(number, 0, writer),
+        Ended::Done(bytes, writer) => print_ended(rt, 0, *bytes, writer),
+        Ended::Refused(number, writer) => print_ended(rt, *number, 0, writer),
     }
 }
 
 // The total where it was lent.
-pub(crate) fn print_read(answer: read::Answer, counted: bool) {
+pub(crate) fn print_read(rt: &impl Print, answer: read::Answer, counted: bool) -> io::Result<()> {
     let state = answer.state;
-    print_text(b"read");
-    print_field(answer.number as u64);
-    print_field(answer.value as u64);
-    print_state(state);
-    print_field(answer.sum as u64);
+    print_text(rt, b"read")?;
+    print_field(rt, answer.number as u64)?;
+    print_field(rt, answer.value as u64)?;
+    print_state(rt, state)?;
+    print_field(rt, answer.sum as u64)?;
     if counted {
-        print_field(answer.total as u64);
+        print_field(rt, answer.total as u64)?;
     }
-    print_text(b"\n");
+    print_text(rt, b"\n")
 }
 
-fn print_byte(byte: u8) {
-    io::print_hex(STDOUT_FILENO, byte as u64, 2);
+fn print_byte(rt: &impl Print, byte: u8) -> io::Result<()> {
+    print!(rt; "{byte:02x}")
 }
 
-pub(crate) fn print_bytes(bytes: &[u8]) {
-    print_text(b"bytes\t");
+pub(crate) fn print_bytes(rt: &impl Print, bytes: &[u8]) -> io::Result<()> {
+    print_text(rt, b"bytes\t")?;
     let mut i: usize = 0;
     while i < bytes.len() {
-        print_byte(bytes[i]);
+        print_byte(rt, bytes[i])?;
         i += 1;
     }
-    print_text(b"\n");
+    print_text(rt, b"\n")
 }
 
-fn print_weight(symbol: usize, weight: u32) {
+fn print_weight(rt: &impl Print, symbol: usize, weight: u32) -> io::Result<()> {
     if 0 < weight {
-        print_field(symbol as u64);
-        print_text(b":");
-        io::print_decimal(STDOUT_FILENO, weight as u64);
+        print_field(rt, symbol as u64)?;
+        print_text(rt, b":")?;
+        print!(rt; "{weight}")?;
     }
+    Ok(())
 }
 
-pub(crate) fn print_weights(histogram: [u32; SYMBOLS]) {
-    print_text(b"weights");
+pub(crate) fn print_weights(rt: &impl Print, histogram: [u32; SYMBOLS]) -> io::Result<()> {
+    print_text(rt, b"weights")?;
     for symbol in 0..SYMBOLS {
-        print_weight(symbol, histogram[symbol]);
+        print_weight(rt, symbol, histogram[symbol])?;
     }
-    print_text(b"\n");
+    print_text(rt, b"\n")
 }

@@ -7,7 +7,7 @@ use coder::read::Read;
 use coder::write::Width;
 
 // The sum is that of the values so far, modulo 2^32; the total is that of a histogram read by TAKE_DYNAMIC.
-#[derive(Drop)]
+#[derive(Clone, Copy)]
 pub struct Answer {
     pub number: u32,
     pub value: u32,
@@ -22,7 +22,7 @@ fn answer_of(read: Read, sum: u32, total: u32) -> Answer {
             number: 0,
             value,
             state,
-            sum: std::num::wrapping_add_u32(sum, value),
+            sum: sum.wrapping_add(value),
             total,
         },
         Read::Refused(number, state) => Answer {
@@ -42,7 +42,7 @@ fn total_of(call: Call, histogram: [u32; SYMBOLS]) -> u32 {
     }
     let mut total: u32 = 0;
     for symbol in 0..SYMBOLS {
-        total = std::num::wrapping_add_u32(total, histogram[symbol]);
+        total = total.wrapping_add(histogram[symbol]);
     }
     total
 }

@@ -42,7 +42,7 @@ pub const SHOW_BYTES: u32 = 16;
 // Prints the weights above 0 of histogram a.
 pub const SHOW_WEIGHTS: u32 = 17;
 
-#[derive(Drop)]
+#[derive(Clone, Copy)]
 pub struct Call {
     pub op: u32,
     pub a: u32,

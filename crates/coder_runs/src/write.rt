@@ -71,7 +71,7 @@ pub(crate) fn write_all(
         if answer.number != 0 {
             return answer;
         }
-        value = std::num::wrapping_add_u32(value, call.c);
+        value = value.wrapping_add(call.c);
         left -= 1;
     }
     answer

@@ -4,11 +4,11 @@
 
 use blocks::file::{Walk, walk_blocks};
 use input::Input;
-use libc::STDOUT_FILENO;
+use std::io;
 
-fn print_number(value: u64, end: &[u8]) {
-    io::print_decimal(STDOUT_FILENO, value);
-    io::write_all(STDOUT_FILENO, end);
+fn print_number(rt: &impl Print, value: u64, end: &[u8]) -> io::Result<()> {
+    print!(rt; "{value}")?;
+    rt.write_all(end)
 }
 
 fn put(file: &mut [u8], i: usize, byte: u8) {
@@ -25,42 +25,44 @@ fn set_file_size(file: &mut [u8], size: usize) {
     }
 }
 
-fn print_walk(file: &mut [u8]) {
+fn print_walk(rt: &impl Print, file: &mut [u8]) -> io::Result<()> {
     let mut table = [0u32; 500];
     let size = file.len();
     set_file_size(file, size);
-    print_number(size as u64, b"\t");
+    print_number(rt, size as u64, b"\t")?;
     match walk_blocks(file, &mut table) {
         Walk::Done { blocks } => {
-            print_number(0, b"\t");
-            print_number(0, b"\t");
-            print_number(blocks as u64, b"\n");
+            print_number(rt, 0, b"\t")?;
+            print_number(rt, 0, b"\t")?;
+            print_number(rt, blocks as u64, b"\n")
         }
         Walk::Refused(e) => {
-            print_number(e.number as u64, b"\t");
-            print_number(e.place as u64, b"\t");
-            print_number(0, b"\n");
+            print_number(rt, e.number as u64, b"\t")?;
+            print_number(rt, e.place as u64, b"\t")?;
+            print_number(rt, 0, b"\n")
         }
     }
 }
 
-fn print_cuts(file: &mut [u8], size: usize) {
+fn print_cuts(rt: &impl Print, file: &mut [u8], size: usize) -> io::Result<()> {
     let mut n: usize = 0;
     while n < size {
         if file.len() < n {
-            return;
+            return Ok(());
         }
-        print_walk(&mut file[..n]);
+        print_walk(rt, &mut file[..n])?;
         n = n + 1;
     }
+    Ok(())
 }
 
-fn main() {
+fn main(rt: HostRuntime) -> io::Result<()> {
     let mut file = [0u8; 4096];
-    let Input::Bytes(size) = input::read_file(1, &mut file) else {
-        return;
+    let Input::Bytes(size) = input::read_file(&rt, 1, &mut file) else {
+        return Ok(());
     };
     if size < 4096 {
-        print_cuts(&mut file, size + 1);
+        print_cuts(&rt, &mut file, size + 1)?;
     }
+    Ok(())
 }

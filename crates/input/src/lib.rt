@@ -4,7 +4,11 @@
 ghost use Rattle.std.specs.Prelude.{length};
 ghost use Rattle.input.specs.Input.{InputFits};
 
-use libc::STDIN_FILENO;
+use std::env::{Env, FillError};
+use std::fs::File;
+use std::io;
+use std::io::Read;
+use std::rt::Runtime;
 
 // So many bytes at the start of the buffer, or nothing where opening or reading failed. Where the buffer is full, more may follow.
 #[derive(Drop)]
@@ -13,25 +17,42 @@ pub enum Input {
     Failed,
 }
 
+// The system's words for an error, without the number that stands after them.
+fn words_of(error: &str) -> &str {
+    match error.split_once(" (os error ") {
+        Some((words, _)) => words,
+        None => error,
+    }
+}
+
+// Tells what failed, and why.
+fn fail(rt: &impl Runtime, name: &str, error: io::Error) {
+    let _ = match format!(in rt.alloc(); "{error}") {
+        Ok(text) => eprintln!(rt; "{name}: {}", words_of(text.as_str())),
+        Err(_) => eprintln!(rt; "{name}: {error}"),
+    };
+}
+
 // Reads once. `name` is how a message calls the input.
-fn read_some(fd: i32, buf: &mut [u8], name: &[u8]) -> Input
+fn read_some(rt: &impl Runtime, reader: &mut impl Read, buf: &mut [u8], name: &str) -> Input
     ensures { InputFits (length buf.new) result }
 {
-    let got = libc::read(fd, buf);
-    if got < 0 {
-        os::fail(name);
-        return Input::Failed;
+    match reader.read(buf) {
+        Ok(got) => Input::Bytes(got),
+        Err(error) => {
+            fail(rt, name, error);
+            Input::Failed
+        }
     }
-    Input::Bytes(io::count(got, buf))
 }
 
 // Reads until the input ends or the buffer is full.
-fn read_to_end(fd: i32, buf: &mut [u8], name: &[u8]) -> Input
+fn read_to_end(rt: &impl Runtime, reader: &mut impl Read, buf: &mut [u8], name: &str) -> Input
     ensures { InputFits (length buf.new) result }
 {
     let mut done: usize = 0;
     while done < buf.len() {
-        let Input::Bytes(n) = read_some(fd, &mut buf[done..], name) else {
+        let Input::Bytes(n) = read_some(rt, &mut *reader, &mut buf[done..], name) else {
             return Input::Failed;
         };
         if n == 0 {
@@ -43,28 +64,47 @@ fn read_to_end(fd: i32, buf: &mut [u8], name: &[u8]) -> Input
 }
 
 // Reads standard input.
-pub fn read_standard(buf: &mut [u8]) -> Input
+pub fn read_standard(rt: &impl Runtime, buf: &mut [u8]) -> Input
     ensures { InputFits (length buf.new) result }
 {
-    read_to_end(STDIN_FILENO, buf, b"standard input")
+    read_to_end(rt, &mut rt.reader(), buf, "standard input")
 }
 
 // Reads the file named by argument `i`, from 1.
-pub fn read_file(i: usize, buf: &mut [u8]) -> Input
+pub fn read_file(rt: &impl Runtime, i: usize, buf: &mut [u8]) -> Input
     ensures { InputFits (length buf.new) result }
 {
-    let mut path = io::buffer();
-    let length = os::arg(i, &mut path);
-    if os::errno() != 0 {
-        os::fail(b"argument");
+    let mut path = [0u8; 4096];
+    let length = match rt.arg(i, &mut path) {
+        Ok(length) => length,
+        Err(FillError::NotPresent) => {
+            let _ = eprintln!(rt; "argument: Invalid argument");
+            return Input::Failed;
+        }
+        Err(FillError::TooLong) => {
+            let _ = eprintln!(rt; "argument: File name too long");
+            return Input::Failed;
+        }
+    };
+    let Ok(path) = str::from_utf8(&path[..length]) else {
+        let _ = eprintln!(rt; "argument: not UTF-8");
         return Input::Failed;
+    };
+    match File::open(rt, path) {
+        Ok(mut file) => read_to_end(rt, &mut file, buf, path),
+        Err(error) => {
+            fail(rt, path, error);
+            Input::Failed
+        }
     }
-    let fd = os::open_read(&path[..length]);
-    if fd < 0 {
-        os::fail(&path[..length]);
-        return Input::Failed;
+}
+
+// How many arguments there are, with the program's name.
+pub fn argument_count(rt: &impl Env) -> usize {
+    for count in 0..usize::MAX {
+        if let Err(FillError::NotPresent) = rt.arg(count, &mut []) {
+            return count;
+        }
     }
-    let input = read_to_end(fd, buf, &path[..length]);
-    libc::close(fd);
-    input
+    usize::MAX
 }

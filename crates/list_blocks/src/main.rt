@@ -3,40 +3,33 @@
 
 use fields::field::bytes_at;
 use fields::limits::LARGEST_PROGRAM_FILE;
-use input::Input;
-use libc::{STDERR_FILENO, STDOUT_FILENO};
+use input::{Input, argument_count};
 use listing::Listing;
+use std::io;
 
 // Writes the listing of the bytes that were read.
-fn list(input: Input, file: &[u8]) {
+fn list(rt: &(impl Print + Eprint), input: Input, file: &[u8]) -> io::Result<()> {
     let mut text = [0u8; 262144];
     let Input::Bytes(n) = input else {
-        return;
+        return Ok(());
     };
     match listing::list_file(bytes_at(file, 0, n), LARGEST_PROGRAM_FILE, &mut text) {
-        Listing::Refused(_) => {
-            io::write_all(STDERR_FILENO, b"list_blocks: the listing is too long\n");
-        }
-        Listing::Written { bytes } => {
-            if !io::write_all(STDOUT_FILENO, bytes_at(&text, 0, bytes)) {
-                os::fail(b"standard output");
-            }
-        }
+        Listing::Refused(_) => eprintln!(rt; "list_blocks: the listing is too long"),
+        Listing::Written { bytes } => rt.write_all(bytes_at(&text, 0, bytes)),
     }
 }
 
-fn main() {
+fn main(rt: HostRuntime) -> io::Result<()> {
     let mut file = [0u8; 65537];
-    let arguments = os::arg_count();
+    let arguments = argument_count(&rt);
     if 2 < arguments {
-        io::write_all(STDERR_FILENO, b"usage: list_blocks [FILE]\n");
-        return;
+        return eprintln!(rt; "usage: list_blocks [FILE]");
     }
     if arguments == 2 {
-        let input = input::read_file(1, &mut file);
-        list(input, &file);
+        let input = input::read_file(&rt, 1, &mut file);
+        list(&rt, input, &file)
     } else {
-        let input = input::read_standard(&mut file);
-        list(input, &file);
+        let input = input::read_standard(&rt, &mut file);
+        list(&rt, input, &file)
     }
 }
