@@ -5,7 +5,7 @@ use fields::field::{U32Field, bytes_at, u32_at};
 const HEAD_SIZE: usize = 32;
 
 // The lengths of the tables, in numbers.
-#[derive(Drop)]
+#[derive(Clone, Copy)]
 pub struct Lengths {
     pub faces: usize,
     pub positions: usize,
