@@ -4,6 +4,7 @@ use crate::word::{Asked, asked_at, byte_at, call_count};
 use progressive::counts::{Counts, Stepped};
 use progressive::refine::{coarsen, refine};
 use progressive::requests::{Progress, take_request};
+use std::io;
 
 // Directions of a request.
 const UP: u32 = 0;
@@ -27,18 +28,19 @@ fn step(
 
 // Takes one step, prints its answer, and hands out the counts after it.
 fn print_call(
+    rt: &impl Print,
     letter: u8,
     steps: &[u32],
     shadings: u32,
     faces: &mut [u32],
     positions: &mut [u32],
     counts: Counts,
-) -> Counts {
+) -> io::Result<Counts> {
     let stepped = step(letter, steps, shadings, faces, positions, counts);
-    print_step(letter, stepped);
+    print_step(rt, letter, &stepped)?;
     match stepped {
-        Stepped::Done(after) => after,
-        Stepped::Refused(_, before) => before,
+        Stepped::Done(after) => Ok(after),
+        Stepped::Refused(_, before) => Ok(before),
     }
 }
 
@@ -67,13 +69,14 @@ fn counts_of(progress: Progress) -> Counts {
 }
 
 // Prints what a walk has come to; what follows starts from its counts.
-fn end_walk(progress: Progress) -> Progress {
-    print_progress(progress);
-    walk_from(counts_of(progress))
+fn end_walk(rt: &impl Print, progress: Progress) -> io::Result<Progress> {
+    print_progress(rt, &progress)?;
+    Ok(walk_from(counts_of(progress)))
 }
 
 // Does what the byte at a place asks for.
 fn follow(
+    rt: &impl Print,
     word: &[u8],
     at: usize,
     steps: &[u32],
@@ -81,37 +84,40 @@ fn follow(
     faces: &mut [u32],
     positions: &mut [u32],
     progress: Progress,
-) -> Progress {
+) -> io::Result<Progress> {
     let letter = byte_at(word, at);
     match asked_at(word, at) {
         Asked::Step => {
             let counts = counts_of(progress);
-            walk_from(print_call(letter, steps, shadings, faces, positions, counts))
+            let after = print_call(rt, letter, steps, shadings, faces, positions, counts)?;
+            Ok(walk_from(after))
         }
         Asked::Request(count) => {
             let direction = direction_of(letter);
-            take_request(
+            Ok(take_request(
                 direction, count, steps, shadings, faces, positions, progress,
-            )
+            ))
         }
-        Asked::WalkEnd => end_walk(progress),
-        _ => progress,
+        Asked::WalkEnd => end_walk(rt, progress),
+        _ => Ok(progress),
     }
 }
 
 // Makes the calls in turn.
 pub(crate) fn print_calls(
+    rt: &impl Print,
     word: &[u8],
     steps: &[u32],
     shadings: u32,
     faces: &mut [u32],
     positions: &mut [u32],
     counts: Counts,
-) {
+) -> io::Result<()> {
     let mut progress = walk_from(counts);
     let mut i: usize = 0;
     while i < word.len() {
         progress = follow(
+            rt,
             word,
             i,
             steps,
@@ -119,8 +125,8 @@ pub(crate) fn print_calls(
             &mut *faces,
             &mut *positions,
             progress,
-        );
+        )?;
         i += 1;
     }
-    print_end(call_count(word));
+    print_end(rt, call_count(word))
 }

@@ -47,7 +47,7 @@ pub(crate) fn byte_at(word: &[u8], at: usize) -> u8 {
 
 // Whether the byte so many places after another is a digit.
 fn is_digit_after(word: &[u8], at: usize, places: usize) -> bool {
-    is_digit(byte_at(word, std::num::wrapping_add_usize(at, places)))
+    is_digit(byte_at(word, at.wrapping_add(places)))
 }
 
 // A value with one digit more; past the largest count it grows no further.
@@ -55,7 +55,7 @@ fn with_digit(value: u64, digit: u8) -> u64 {
     if (LARGEST_U32 as u64) < value {
         return value;
     }
-    value * 10 + std::num::wrapping_sub_u8(digit, b'0') as u64
+    value * 10 + digit.wrapping_sub(b'0') as u64
 }
 
 // A decimal of so many digits.
@@ -111,7 +111,7 @@ fn asked_by_digit(word: &[u8], at: usize) -> Asked {
 pub(crate) fn asked_at(word: &[u8], at: usize) -> Asked {
     let byte = byte_at(word, at);
     if is_letter(byte) {
-        return asked_by_letter(decimal_at(word, std::num::wrapping_add_usize(at, 1)));
+        return asked_by_letter(decimal_at(word, at.wrapping_add(1)));
     }
     if is_digit(byte) {
         return asked_by_digit(word, at);
@@ -146,7 +146,7 @@ pub(crate) fn call_count(word: &[u8]) -> usize {
     let mut calls: usize = 0;
     let mut i: usize = 0;
     while i < word.len() {
-        calls = std::num::wrapping_add_usize(calls, calls_at(word, i));
+        calls = calls.wrapping_add(calls_at(word, i));
         i += 1;
     }
     calls

@@ -3,6 +3,7 @@ use crate::print::print_breaths;
 use crate::state::{State, step, with_counts};
 use crate::table::{copy, is_same};
 use progressive::counts::{Counts, Stepped};
+use std::io;
 
 // Room for a copy of either table.
 const COPY_ROOM: usize = 8192;
@@ -53,7 +54,7 @@ fn breath(
     let top = up.state;
     let down = run(false, limit, steps, &mut *faces, &mut *positions, top);
     let state = down.state;
-    let taken = std::num::wrapping_add_usize(up.steps, down.steps);
+    let taken = up.steps.wrapping_add(down.steps);
     After {
         state,
         steps: taken,
@@ -74,7 +75,7 @@ fn breaths(
     while 0 < left {
         let one = breath(limit, steps, &mut *faces, &mut *positions, now);
         now = one.state;
-        taken = std::num::wrapping_add_usize(taken, one.steps);
+        taken = taken.wrapping_add(one.steps);
         left -= 1;
     }
     After {
@@ -92,13 +93,14 @@ fn is_equal(a: Counts, b: Counts) -> bool {
 
 // Breathes so many times, and tells whether tables and counts are as before.
 pub(crate) fn breathe(
+    rt: &impl Print,
     times: u32,
     limit: u32,
     steps: &[u32],
     faces: &mut [u32],
     positions: &mut [u32],
     state: State,
-) -> State {
+) -> io::Result<State> {
     let mut old_faces = [0u32; COPY_ROOM];
     let mut old_positions = [0u32; COPY_ROOM];
     copy(&*faces, &mut old_faces);
@@ -108,6 +110,6 @@ pub(crate) fn breathe(
     let mut same = is_equal(state.counts, last.counts);
     same = same && is_same(&*faces, &old_faces);
     same = same && is_same(&*positions, &old_positions);
-    print_breaths(after.steps, same);
-    last
+    print_breaths(rt, after.steps, same)?;
+    Ok(last)
 }

@@ -7,6 +7,7 @@ use crate::table::store_from;
 use crate::walk::{begun, print_request};
 use fields::words::put;
 use progressive::counts::Counts;
+use std::io;
 
 // Operations.
 const UP: u32 = 0;
@@ -38,19 +39,20 @@ const WALK_ON: u32 = 12;
 
 // One step, and its line.
 fn print_call(
+    rt: &impl Print,
     up: bool,
     steps: &[u32],
     faces: &mut [u32],
     positions: &mut [u32],
     state: State,
-) -> State {
+) -> io::Result<State> {
     let stepped = step(up, steps, &mut *faces, &mut *positions, state);
     if up {
-        print_step(b"up", stepped, &*faces, &*positions);
+        print_step(rt, b"up", &stepped, &*faces, &*positions)?;
     } else {
-        print_step(b"down", stepped, &*faces, &*positions);
+        print_step(rt, b"down", &stepped, &*faces, &*positions)?;
     }
-    with_counts(state, counts_after(stepped))
+    Ok(with_counts(state, counts_after(stepped)))
 }
 
 // A word stored in one of the tables.
@@ -90,44 +92,48 @@ fn change_state(call: Call, state: State) -> State {
 }
 
 fn perform(
+    rt: &impl Print,
     call: Call,
     steps: &mut [u32],
     faces: &mut [u32],
     positions: &mut [u32],
     state: State,
-) -> State {
+) -> io::Result<State> {
     let operation = call.operation;
     match operation {
-        UP => print_call(true, &*steps, faces, positions, state),
-        DOWN => print_call(false, &*steps, faces, positions, state),
-        BREATHE => breathe(call.a, call.b, &*steps, faces, positions, state),
-        WALK => print_request(b"walk", call, &*steps, faces, positions, begun(state)),
-        WALK_ON => print_request(b"on", call, &*steps, faces, positions, state),
+        UP => print_call(rt, true, &*steps, faces, positions, state),
+        DOWN => print_call(rt, false, &*steps, faces, positions, state),
+        BREATHE => breathe(rt, call.a, call.b, &*steps, faces, positions, state),
+        WALK => print_request(rt, b"walk", call, &*steps, faces, positions, begun(state)),
+        WALK_ON => print_request(rt, b"on", call, &*steps, faces, positions, state),
         _ => {
             change_table(call, steps, faces, positions);
-            change_state(call, state)
+            Ok(change_state(call, state))
         }
     }
 }
 
 pub(crate) fn perform_all(
+    rt: &impl Print,
     calls: &[u8],
     steps: &mut [u32],
     faces: &mut [u32],
     positions: &mut [u32],
     state: State,
-) {
+) -> io::Result<()> {
     let mut now = state;
     let mut i: usize = 0;
     let count = call_count(calls);
     while i < count {
         now = perform(
+            rt,
             call_in(calls, i),
             &mut *steps,
             &mut *faces,
             &mut *positions,
             now,
-        );
+        )?;
         i += 1;
     }
+    Ok(())
 }

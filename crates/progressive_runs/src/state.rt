@@ -4,7 +4,7 @@ use crate::table::{lent, lent_steps};
 use progressive::counts::{Counts, Stepped};
 use progressive::refine::{coarsen, refine};
 
-#[derive(Drop)]
+#[derive(Clone, Copy)]
 pub struct State {
     pub counts: Counts,
     pub shadings: u32,

@@ -7,7 +7,7 @@ const HEAD_SIZE: usize = 24;
 const CALL_SIZE: usize = 12;
 
 // The lengths of the tables, in numbers.
-#[derive(Drop)]
+#[derive(Clone, Copy)]
 pub struct Lengths {
     pub faces: usize,
     pub positions: usize,
@@ -15,7 +15,7 @@ pub struct Lengths {
 }
 
 // What is done, and with which two numbers.
-#[derive(Drop)]
+#[derive(Clone, Copy)]
 pub struct Call {
     pub operation: u32,
     pub a: u32,
@@ -54,15 +54,15 @@ pub(crate) fn are_within(lengths: Lengths, room: usize) -> bool {
 }
 
 fn continuation_at(file: &[u8]) -> usize {
-    std::num::wrapping_add_usize(HEAD_SIZE, size_at(file, 12))
+    HEAD_SIZE.wrapping_add(size_at(file, 12))
 }
 
 fn text_at(file: &[u8]) -> usize {
-    std::num::wrapping_add_usize(continuation_at(file), size_at(file, 16))
+    continuation_at(file).wrapping_add(size_at(file, 16))
 }
 
 fn calls_at(file: &[u8]) -> usize {
-    std::num::wrapping_add_usize(text_at(file), size_at(file, 20))
+    text_at(file).wrapping_add(size_at(file, 20))
 }
 
 pub(crate) fn declaration_of(file: &[u8]) -> &[u8] {

@@ -5,6 +5,7 @@ use crate::stored::Call;
 use crate::table::{lent, lent_steps};
 use progressive::counts::Counts;
 use progressive::requests::{Progress, take_request};
+use std::io;
 
 // The state with which a walk begins: not refused, and no steps granted.
 pub(crate) fn begun(state: State) -> State {
@@ -64,14 +65,15 @@ fn request(
 
 // One request, and the line of what its walk has come to.
 pub(crate) fn print_request(
+    rt: &impl Print,
     name: &[u8],
     call: Call,
     steps: &[u32],
     faces: &mut [u32],
     positions: &mut [u32],
     state: State,
-) -> State {
+) -> io::Result<State> {
     let progress = request(call, steps, &mut *faces, &mut *positions, state);
-    print_progress(name, progress, &*faces, &*positions);
-    with_progress(state, progress)
+    print_progress(rt, name, &progress, &*faces, &*positions)?;
+    Ok(with_progress(state, progress))
 }

@@ -1,24 +1,24 @@
 // Lines of fields with tabs between them.
 use fields::numbers::Refusal;
-use libc::STDOUT_FILENO;
 use mesh::base::{MeshCounts, Part};
 use mesh::faces::FACE_WORDS;
 use mesh::shading::SHADINGS;
+use std::io;
 
-pub(crate) fn print_text(text: &[u8]) {
-    io::write_all(STDOUT_FILENO, text);
+pub(crate) fn print_text(rt: &impl Print, text: &[u8]) -> io::Result<()> {
+    rt.write_all(text)
 }
 
-fn print_field(value: u64) {
-    print_text(b"\t");
-    io::print_decimal(STDOUT_FILENO, value);
+fn print_field(rt: &impl Print, value: u64) -> io::Result<()> {
+    print_text(rt, b"\t")?;
+    print!(rt; "{value}")
 }
 
-pub(crate) fn print_end(number: u32, meshes: usize) {
-    print_text(b"end");
-    print_field(number as u64);
-    print_field(meshes as u64);
-    print_text(b"\n");
+pub(crate) fn print_end(rt: &impl Print, number: u32, meshes: usize) -> io::Result<()> {
+    print_text(rt, b"end")?;
+    print_field(rt, number as u64)?;
+    print_field(rt, meshes as u64)?;
+    print_text(rt, b"\n")
 }
 
 fn is_printable(byte: u8) -> bool {
@@ -32,52 +32,52 @@ fn is_printable(byte: u8) -> bool {
 }
 
 // A byte of a name: printable ASCII as it is, all else and the backslash as \x and two digits.
-fn print_byte(byte: u8) {
+fn print_byte(rt: &impl Print, byte: u8) -> io::Result<()> {
     if is_printable(byte) {
         let text = [byte];
-        print_text(&text);
+        print_text(rt, &text)
     } else {
-        print_text(b"\\x");
-        io::print_hex(STDOUT_FILENO, byte as u64, 2);
+        print_text(rt, b"\\x")?;
+        print!(rt; "{byte:02x}")
     }
 }
 
-pub(crate) fn print_name(name: &[u8]) {
-    print_text(b"mesh\t");
+pub(crate) fn print_name(rt: &impl Print, name: &[u8]) -> io::Result<()> {
+    print_text(rt, b"mesh\t")?;
     let mut i: usize = 0;
     while i < name.len() {
-        print_byte(name[i]);
+        print_byte(rt, name[i])?;
         i += 1;
     }
-    print_text(b"\n");
+    print_text(rt, b"\n")
 }
 
-fn print_part(part: Part) {
+fn print_part(rt: &impl Print, part: Part) -> io::Result<()> {
     match part {
-        Part::Declaration => print_text(b"\tdeclaration"),
-        Part::Continuation => print_text(b"\tcontinuation"),
+        Part::Declaration => print_text(rt, b"\tdeclaration"),
+        Part::Continuation => print_text(rt, b"\tcontinuation"),
     }
 }
 
 // The number, the part that the place counts in, and the place.
-pub(crate) fn print_refusal(part: Part, refusal: Refusal) {
-    print_text(b"answer");
-    print_field(refusal.number as u64);
-    print_part(part);
-    print_field(refusal.place as u64);
-    print_text(b"\n");
+pub(crate) fn print_refusal(rt: &impl Print, part: Part, refusal: Refusal) -> io::Result<()> {
+    print_text(rt, b"answer")?;
+    print_field(rt, refusal.number as u64)?;
+    print_part(rt, part)?;
+    print_field(rt, refusal.place as u64)?;
+    print_text(rt, b"\n")
 }
 
-pub(crate) fn print_counts(counts: MeshCounts) {
-    print_text(b"answer\t0\tnone\t0\ncounts");
-    print_field(counts.faces as u64);
-    print_field(counts.positions as u64);
-    print_field(counts.normals as u64);
-    print_field(counts.diffuse as u64);
-    print_field(counts.specular as u64);
-    print_field(counts.texture as u64);
-    print_field(counts.shadings as u64);
-    print_text(b"\n");
+pub(crate) fn print_counts(rt: &impl Print, counts: &MeshCounts) -> io::Result<()> {
+    print_text(rt, b"answer\t0\tnone\t0\ncounts")?;
+    print_field(rt, counts.faces as u64)?;
+    print_field(rt, counts.positions as u64)?;
+    print_field(rt, counts.normals as u64)?;
+    print_field(rt, counts.diffuse as u64)?;
+    print_field(rt, counts.specular as u64)?;
+    print_field(rt, counts.texture as u64)?;
+    print_field(rt, counts.shadings as u64)?;
+    print_text(rt, b"\n")
 }
 
 // The shading id of a face, 0 where the table has no such face.
@@ -91,7 +91,7 @@ fn shading_of(faces: &[u32], face: usize) -> u32 {
 // One face more has this shading.
 fn raise(uses: &mut [u32], id: usize) {
     if id < uses.len() {
-        uses[id] = std::num::wrapping_add_u32(uses[id], 1);
+        uses[id] = uses[id].wrapping_add(1);
     }
 }
 
@@ -103,21 +103,22 @@ fn count_uses(faces: &[u32], count: usize, uses: &mut [u32]) {
     }
 }
 
-fn print_use(id: usize, faces: u32) {
+fn print_use(rt: &impl Print, id: usize, faces: u32) -> io::Result<()> {
     if faces == 0 {
-        return;
+        return Ok(());
     }
-    print_text(b"shading");
-    print_field(id as u64);
-    print_field(faces as u64);
-    print_text(b"\n");
+    print_text(rt, b"shading")?;
+    print_field(rt, id as u64)?;
+    print_field(rt, faces as u64)?;
+    print_text(rt, b"\n")
 }
 
 // For each shading that occurs, how many of the faces have it.
-pub(crate) fn print_uses(faces: &[u32], count: u32) {
+pub(crate) fn print_uses(rt: &impl Print, faces: &[u32], count: u32) -> io::Result<()> {
     let mut uses = [0u32; SHADINGS];
     count_uses(faces, count as usize, &mut uses);
     for id in 0..SHADINGS {
-        print_use(id, uses[id]);
+        print_use(rt, id, uses[id])?;
     }
+    Ok(())
 }
