@@ -9,8 +9,7 @@ use climb::{ClimbRead, read_climb};
 use fields::numbers::NO_ROOM;
 
 // Reads a climb text into the table of its steps; result: place (a line), number of words.
-#[unsafe(no_mangle)]
-pub extern "C" fn oysterfold_read_climb(text: &[u8], table: &mut [u32], res: &mut [u64]) -> u32
+pub fn oysterfold_read_climb(text: &[u8], table: &mut [u32], res: &mut [u64]) -> u32
     ensures value { result ≡ number_of (answer_in res.old (word_count (climb_in text.now table.old))) }
     ensures table_after { table.new ≡ table_after (answer_in res.old (climb_in text.now table.old)) table.old }
     ensures res_after { res.new ≡ result_of (word_count (climb_in text.now table.old)) res.old }

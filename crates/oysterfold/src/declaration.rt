@@ -73,12 +73,7 @@ fn hand_out(s: &[u8], size: usize, fields: &mut [u32], res: &mut [u64]) -> u32
 
 // Reads a mesh declaration's data; the U32 fields after the name go to `fields`. Result: place, number of fields, name offset, name
 // length.
-#[unsafe(no_mangle)]
-pub extern "C" fn oysterfold_declaration(
-    declaration: &[u8],
-    fields: &mut [u32],
-    res: &mut [u64],
-) -> u32
+pub fn oysterfold_declaration(declaration: &[u8], fields: &mut [u32], res: &mut [u64]) -> u32
     ensures value { result ≡ number_of (declaration_in declaration.now fields.old res.old) }
     ensures fields_after { fields.new ≡ fields_after (declaration_in declaration.now fields.old res.old) fields.old }
     ensures res_after { res.new ≡ declaration_result (declaration_in declaration.now fields.old res.old) res.old }

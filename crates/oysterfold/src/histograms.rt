@@ -36,8 +36,7 @@ pub(crate) fn frequencies_in(histogram: &[u32]) -> [u32; SYMBOLS]
 }
 
 // A fresh dynamic context.
-#[unsafe(no_mangle)]
-pub extern "C" fn oysterfold_histogram_fresh(histogram: &mut [u32]) -> u32
+pub fn oysterfold_histogram_fresh(histogram: &mut [u32]) -> u32
     ensures { stored result histogram.new ≡ stored_into fresh_histogram histogram.old }
 {
     if histogram.len() < SYMBOLS {

@@ -12,8 +12,7 @@ use listing::{Listing, list_file};
 
 // Puts the listing of a file of at most 16 MiB at the start of `text`; a file that is refused is listed too. Result: place, number
 // of bytes.
-#[unsafe(no_mangle)]
-pub extern "C" fn oysterfold_listing(file: &[u8], text: &mut [u8], res: &mut [u64]) -> u32
+pub fn oysterfold_listing(file: &[u8], text: &mut [u8], res: &mut [u64]) -> u32
     ensures value { result ≡ number_of (answer_in res.old (written (listing_of largest_file file.now) text.old)) }
     ensures text_after { text.new ≡ buffer_after (answer_in res.old (written (listing_of largest_file file.now) text.old)) (listing_of largest_file file.now) text.old }
     ensures res_after { res.new ≡ result_of (written (listing_of largest_file file.now) text.old) res.old }

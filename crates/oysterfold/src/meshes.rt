@@ -52,8 +52,7 @@ fn words_of(place: u64, part: u64, counts: MeshCounts) -> [u64; RESULT_WORDS]
 
 // Reads a mesh into six tables; result: place, part (0 declaration, 1 continuation), counts of faces, positions, normals, diffuse
 // colors, specular colors, texture coordinates and shadings.
-#[unsafe(no_mangle)]
-pub extern "C" fn oysterfold_read_mesh(
+pub fn oysterfold_read_mesh(
     declaration: &[u8],
     continuation: &[u8],
     faces: &mut [u32],

@@ -18,8 +18,7 @@ use coder::write::Width;
 use fields::numbers::NO_ROOM;
 
 // A fresh reader's state.
-#[unsafe(no_mangle)]
-pub extern "C" fn oysterfold_reader_fresh(state: &mut [u64]) -> u32
+pub fn oysterfold_reader_fresh(state: &mut [u64]) -> u32
     ensures { stored result state.new ≡ stored_into (coder_words fresh) state.old }
 {
     if state.len() < CODER_WORDS {
@@ -44,13 +43,7 @@ fn answer(read: Read, state: &mut [u64], res: &mut [u64]) -> u32
 }
 
 // Reads a value in a static range; result: place, value.
-#[unsafe(no_mangle)]
-pub extern "C" fn oysterfold_read_static(
-    state: &mut [u64],
-    coded: &[u8],
-    range: u32,
-    res: &mut [u64],
-) -> u32
+pub fn oysterfold_read_static(state: &mut [u64], coded: &[u8], range: u32, res: &mut [u64]) -> u32
     ensures { handed result state.new res.new ≡ read_into (shorter coder_length state.old) (take_static true range coded.now (coder_in state.old)) state.old res.old }
 {
     if res.len() < RESULT_WORDS {
@@ -76,13 +69,7 @@ fn read_plain(s: Coder, coded: &[u8], bytes: u32) -> Read
 }
 
 // Reads a plain value of 1, 2 or 4 bytes; result: place, value.
-#[unsafe(no_mangle)]
-pub extern "C" fn oysterfold_read_plain(
-    state: &mut [u64],
-    coded: &[u8],
-    bytes: u32,
-    res: &mut [u64],
-) -> u32
+pub fn oysterfold_read_plain(state: &mut [u64], coded: &[u8], bytes: u32, res: &mut [u64]) -> u32
     ensures { handed result state.new res.new ≡ read_into (shorter coder_length state.old) (take_bytes bytes coded.now (coder_in state.old)) state.old res.old }
 {
     if res.len() < RESULT_WORDS {
@@ -96,8 +83,7 @@ pub extern "C" fn oysterfold_read_plain(
 }
 
 // Reads a value in a dynamic context; result: place, value.
-#[unsafe(no_mangle)]
-pub extern "C" fn oysterfold_read_dynamic(
+pub fn oysterfold_read_dynamic(
     state: &mut [u64],
     coded: &[u8],
     histogram: &mut [u32],

@@ -49,8 +49,7 @@ fn finish(counts: &mut [u32], res: &mut [u64], progress: Progress) -> u32
 }
 
 // A walk over the requests, to the first refusal. This call only keeps the steps granted before a refusal, and tells them.
-#[unsafe(no_mangle)]
-pub extern "C" fn oysterfold_steps(
+pub fn oysterfold_steps(
     list: &[u32],
     shadings: u32,
     requests: &[StepRequest],

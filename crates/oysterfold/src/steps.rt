@@ -36,8 +36,7 @@ fn answer(stepped: Stepped, counts: &mut [u32]) -> u32
 }
 
 // One step up (01: up). `counts` holds the present numbers of positions and faces, and is changed only where the answer is 0.
-#[unsafe(no_mangle)]
-pub extern "C" fn oysterfold_up(
+pub fn oysterfold_up(
     list: &[u32],
     shadings: u32,
     faces: &mut [u32],
@@ -54,8 +53,7 @@ pub extern "C" fn oysterfold_up(
 }
 
 // One step down (01: down).
-#[unsafe(no_mangle)]
-pub extern "C" fn oysterfold_down(
+pub fn oysterfold_down(
     list: &[u32],
     shadings: u32,
     faces: &mut [u32],

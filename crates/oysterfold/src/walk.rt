@@ -9,8 +9,7 @@ use blocks::file::{Walk, walk_blocks};
 use fields::numbers::NO_ROOM;
 
 // Walks the blocks of a file into rows of five words; result: place, number of blocks.
-#[unsafe(no_mangle)]
-pub extern "C" fn oysterfold_walk(file: &[u8], rows: &mut [u32], res: &mut [u64]) -> u32
+pub fn oysterfold_walk(file: &[u8], rows: &mut [u32], res: &mut [u64]) -> u32
     ensures value { result ≡ number_of (answer_in res.old (walk_in file.now rows.old)) }
     ensures rows_after { rows.new ≡ buffer_after (answer_in res.old (walk_in file.now rows.old)) (file_words file.now) rows.old }
     ensures res_after { res.new ≡ result_of (walk_in file.now rows.old) res.old }

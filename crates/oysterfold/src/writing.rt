@@ -16,8 +16,7 @@ use coder::write::{Width, Writer, Written};
 use fields::numbers::NO_ROOM;
 
 // A fresh writer's state.
-#[unsafe(no_mangle)]
-pub extern "C" fn oysterfold_writer_fresh(state: &mut [u64]) -> u32
+pub fn oysterfold_writer_fresh(state: &mut [u64]) -> u32
     ensures { stored result state.new ≡ stored_into (writer_words fresh_writer) state.old }
 {
     if state.len() < WRITER_WORDS {
@@ -42,13 +41,7 @@ fn answer(written: Written, state: &mut [u64]) -> u32
 }
 
 // Writes a value in a static range.
-#[unsafe(no_mangle)]
-pub extern "C" fn oysterfold_write_static(
-    state: &mut [u64],
-    buffer: &mut [u8],
-    range: u32,
-    value: u32,
-) -> u32
+pub fn oysterfold_write_static(state: &mut [u64], buffer: &mut [u8], range: u32, value: u32) -> u32
     ensures { handed result state.new buffer.new ≡ written_into (shorter writer_length state.old) (write_static range buffer.old (writer_in state.old) value) state.old buffer.old }
 {
     if state.len() < WRITER_WORDS {
@@ -71,13 +64,7 @@ fn written_plain(w: Writer, buffer: &mut [u8], bytes: u32, value: u32) -> Writte
 }
 
 // Writes a plain value of 1, 2 or 4 bytes.
-#[unsafe(no_mangle)]
-pub extern "C" fn oysterfold_write_plain(
-    state: &mut [u64],
-    buffer: &mut [u8],
-    bytes: u32,
-    value: u32,
-) -> u32
+pub fn oysterfold_write_plain(state: &mut [u64], buffer: &mut [u8], bytes: u32, value: u32) -> u32
     ensures { handed result state.new buffer.new ≡ written_into (shorter writer_length state.old) (write_bytes bytes buffer.old (writer_in state.old) value) state.old buffer.old }
 {
     if state.len() < WRITER_WORDS {
@@ -88,8 +75,7 @@ pub extern "C" fn oysterfold_write_plain(
 }
 
 // Writes a value in a dynamic context.
-#[unsafe(no_mangle)]
-pub extern "C" fn oysterfold_write_dynamic(
+pub fn oysterfold_write_dynamic(
     state: &mut [u64],
     buffer: &mut [u8],
     histogram: &mut [u32],
@@ -125,8 +111,7 @@ fn end_answer(ended: Ended, state: &mut [u64], res: &mut [u64]) -> u32
 }
 
 // Ends a coded run; result: place, bytes used.
-#[unsafe(no_mangle)]
-pub extern "C" fn oysterfold_write_end(state: &mut [u64], buffer: &mut [u8], res: &mut [u64]) -> u32
+pub fn oysterfold_write_end(state: &mut [u64], buffer: &mut [u8], res: &mut [u64]) -> u32
     ensures buffer_after { handed result state.new buffer.new ≡ written_into (shorter result_words res.old || shorter writer_length state.old) (end_write (end buffer.old (writer_in state.old))) state.old buffer.old }
     ensures res_after { res.new ≡ used_into (shorter writer_length state.old) (end buffer.old (writer_in state.old)) res.old }
 {
