@@ -10,4 +10,3 @@ pub mod Allowing
 pub mod Laying
 pub mod Judgements
 pub mod Walking
-pub mod Relending

@@ -1,5 +1,5 @@
 -- Counts that fit their tables: what the test tells. Each fact is a conjunct of the test.
-use Rattle.std.proofs.Common.{◌≡◌, ℕ, ◌-◌, ◌*◌, ◌≤◌, Bool, true, ◌&&◌, leb, sym, ◌∙◌, le-leb, leb-true}
+use Rattle.std.proofs.Common.{◌≡◌, ℕ, ◌*◌, ◌≤◌, Bool, true, ◌&&◌, leb, sym, ◌∙◌, le-leb, leb-true}
 use Rattle.fields.specs.Limits.{largest_count}
 use Rattle.mesh.specs.Corners.{face_words}
 use Rattle.mesh.specs.Base.{position_words}
