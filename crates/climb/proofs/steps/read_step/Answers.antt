@@ -53,8 +53,11 @@ pub returns-in_default : goal.returns-in_default
 unfolding rules_from
 returns-in_default c =
     let a = c.args in
-    let r = c.read_row in record { table_after = step_unsplit a.text.now a.from.line a.from.at a.from.to a.table.now
-          (row_refused a.text.now split_form a.from.line a.from.at a.from.to a.table.now _ r.result (r.ensures.row_read a.from.line) c.in_default.is); taken_within = tt }
+    let r = c.read_row in record {
+      table_after = step_unsplit a.text.now a.from.line a.from.at a.from.to a.table.now
+          (row_refused a.text.now split_form a.from.line a.from.at a.from.to a.table.now _ r.result (r.ensures.row_read a.from.line) c.in_default.is);
+      taken_within = tt;
+    }
 
 pub read_rows-requires : goal.read_rows-requires
 unfolding is_word
@@ -78,15 +81,21 @@ pub returns-in-Bad : goal.returns-in-Bad
 unfolding rules_from
 returns-in-Bad c =
     let a = c.args in
-    let r = c.read_rows in record { table_after = step_unmoved a.text.now a.from.line a.from.at a.from.to a.table.now _ _ (split-of (goal.at.returns-in-Bad c).In-Next) _
-          (taken_refused a.text.now _ _ _ _ r.result r.ensures.table_after _ c.in-Bad.is); taken_within = tt }
+    let r = c.read_rows in record {
+      table_after = step_unmoved a.text.now a.from.line a.from.at a.from.to a.table.now _ _ (split-of (goal.at.returns-in-Bad c).In-Next) _
+          (taken_refused a.text.now _ _ _ _ r.result r.ensures.table_after _ c.in-Bad.is);
+      taken_within = tt;
+    }
 
 pub returns-in-Bad-read_rows : goal.returns-in-Bad-read_rows
 unfolding rules_from
 returns-in-Bad-read_rows c =
     let a = c.args in
-    let r = c.read_rows-in-Read in record { table_after = step_unfaced a.text.now a.from.line a.from.at a.from.to a.table.now _ _ (split-of (goal.at.returns-in-Bad-read_rows c).In-Next) _ _ _ (moves_of (goal.at.returns-in-Bad-read_rows c).In-Read) _
-          (taken_refused a.text.now _ _ _ _ r.result r.ensures.table_after _ c.in-Bad-read_rows.is); taken_within = tt }
+    let r = c.read_rows-in-Read in record {
+      table_after = step_unfaced a.text.now a.from.line a.from.at a.from.to a.table.now _ _ (split-of (goal.at.returns-in-Bad-read_rows c).In-Next) _ _ _ (moves_of (goal.at.returns-in-Bad-read_rows c).In-Read) _
+          (taken_refused a.text.now _ _ _ _ r.result r.ensures.table_after _ c.in-Bad-read_rows.is);
+      taken_within = tt;
+    }
 
 pub shape_of-table-in-Read-read_rows : goal.shape_of-table-in-Read-read_rows
 shape_of-table-in-Read-read_rows c = c.table-in-Read-read_rows-2-1.given ∙ (c.table-in-Read-read_rows-1.given ∙ (c.table-in-Read-1.given ∙ (c.table-2-1.given ∙ c.table-1.given)))
@@ -95,5 +104,8 @@ pub returns-in-Read-read_rows : goal.returns-in-Read-read_rows
 returns-in-Read-read_rows c =
     let a = c.args in
     let w = rw c.in-Read-read_rows.is at c.read_rows-in-Read.ensures.taken_within in
-    let v = rw c.in-Read.is at c.read_rows.ensures.taken_within in record { table_after = step_done a.text.now a.from.line a.from.at a.from.to a.table.now _ _ (split-of (goal.at.returns-in-Read-read_rows c).In-Next) _ _ _ (moves_of (goal.at.returns-in-Read-read_rows c).In-Read) _ _ _ _ (faces-of (goal.at.returns-in-Read-read_rows c).In-Read-read_rows)
-          (c.put-in-Read-read_rows.ensures ∙ ap (λ (l : List ℕ). set l (a.from.to + 5) c.in-Read-read_rows.faces) c.put.ensures); taken_within = (w.0, omega (arith, w.1, v.1), omega (arith, w.2, v.2)) }
+    let v = rw c.in-Read.is at c.read_rows.ensures.taken_within in record {
+      table_after = step_done a.text.now a.from.line a.from.at a.from.to a.table.now _ _ (split-of (goal.at.returns-in-Read-read_rows c).In-Next) _ _ _ (moves_of (goal.at.returns-in-Read-read_rows c).In-Read) _ _ _ _ (faces-of (goal.at.returns-in-Read-read_rows c).In-Read-read_rows)
+          (c.put-in-Read-read_rows.ensures ∙ ap (λ (l : List ℕ). set l (a.from.to + 5) c.in-Read-read_rows.faces) c.put.ensures);
+      taken_within = (w.0, omega (arith, w.1, v.1), omega (arith, w.2, v.2));
+    }

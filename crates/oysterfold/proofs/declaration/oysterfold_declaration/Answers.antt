@@ -18,7 +18,7 @@ returns-then-read-ne0 c =
     let r = c.read_declaration-read in
     let e = refused_by r.result (declaration_of a.declaration.now) r.ensures c.if-read-ne0.true in
     let both = handed a.declaration.now a.fields.now a.res.now c.if-res-lt-RESULT_WORDS.false (refused r.result.number r.result.place) (rw e)
-        (c.tell_refused.ensures.value, (refl, c.tell_refused.ensures.res_after)) in
+    (c.tell_refused.ensures.value, (refl, c.tell_refused.ensures.res_after)) in
     record { value = both.0; fields_after = both.1.0; res_after = both.1.1 }
 
 pub hand_out-requires : goal.hand_out-requires
@@ -34,5 +34,5 @@ returns c =
     let r = c.read_declaration-read in
     let e = read_by_lem r.result (declaration_of s) (declaration_numbered s) r.ensures c.if-read-ne0.false in
     let both = handed s a.fields.now a.res.now c.if-res-lt-RESULT_WORDS.false (fields_in s a.fields.now r.result.declaration.name_size) (rw e)
-        (c.hand_out.ensures.value, (c.hand_out.ensures.fields_after, c.hand_out.ensures.res_after)) in
+    (c.hand_out.ensures.value, (c.hand_out.ensures.fields_after, c.hand_out.ensures.res_after)) in
     record { value = both.0; fields_after = both.1.0; res_after = both.1.1 }

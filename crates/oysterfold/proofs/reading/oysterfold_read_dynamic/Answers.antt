@@ -26,5 +26,8 @@ returns-then-histogram-lt-SYMBOLS c =
 pub returns : goal.returns
 returns c =
     let a = c.args in
-    let long = context_long coder_length a.state.now a.histogram.now c.if-state-lt-CODER_WORDS.false c.if-histogram-lt-SYMBOLS.false in record { res_after = read_told (take_dynamic (take symbols a.histogram.now) a.coded.now (coder_in a.state.now)) a.state.now a.res.now c.if-res-lt-RESULT_WORDS.false long (rw (c.coder_in.ensures, c.frequencies_in-frequencies.ensures) at c.read_dynamic-read.ensures.result_value) c.answer.ensures; histogram_after = histogram_put (taken_histogram (take symbols a.histogram.now) a.coded.now (coder_in a.state.now)) a.histogram.now (result_long a.res.now c.if-res-lt-RESULT_WORDS.false long)
-          (rw (c.coder_in.ensures, c.frequencies_in-frequencies.ensures) at c.read_dynamic-read.ensures.frequencies_after) c.put_frequencies.ensures }
+    let long = context_long coder_length a.state.now a.histogram.now c.if-state-lt-CODER_WORDS.false c.if-histogram-lt-SYMBOLS.false in record {
+      res_after = read_told (take_dynamic (take symbols a.histogram.now) a.coded.now (coder_in a.state.now)) a.state.now a.res.now c.if-res-lt-RESULT_WORDS.false long (rw (c.coder_in.ensures, c.frequencies_in-frequencies.ensures) at c.read_dynamic-read.ensures.result_value) c.answer.ensures;
+      histogram_after = histogram_put (taken_histogram (take symbols a.histogram.now) a.coded.now (coder_in a.state.now)) a.histogram.now (result_long a.res.now c.if-res-lt-RESULT_WORDS.false long)
+          (rw (c.coder_in.ensures, c.frequencies_in-frequencies.ensures) at c.read_dynamic-read.ensures.frequencies_after) c.put_frequencies.ensures;
+    }

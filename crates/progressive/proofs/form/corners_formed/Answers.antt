@@ -11,10 +11,10 @@ loop-i-preserved c = let a = c.args in
     let formed = corner_formed a.steps.now a.step in (
       search rules,
       elim c.if-move_corner-gt2.branch [
-        then-move_corner-gt2 w ↦
-          w.formed-is ∙ not_all formed c.loop-i.i c.loop-i.invariant.1 (lt-leb _ _ (rw c.move_corner.ensures.0 at w.if-move_corner-gt2.true))
-      | else-move_corner-gt2 w ↦
-          w.formed-is ∙ still_all formed c.loop-i.i c.loop-i.invariant.1 (le-leb _ _ (rw c.move_corner.ensures.0 at w.if-move_corner-gt2.false))
+        | then-move_corner-gt2 w ↦
+            w.formed-is ∙ not_all formed c.loop-i.i c.loop-i.invariant.1 (lt-leb _ _ (rw c.move_corner.ensures.0 at w.if-move_corner-gt2.true))
+        | else-move_corner-gt2 w ↦
+            w.formed-is ∙ still_all formed c.loop-i.i c.loop-i.invariant.1 (le-leb _ _ (rw c.move_corner.ensures.0 at w.if-move_corner-gt2.false))
       ],
     )
 

@@ -28,12 +28,11 @@ returns-then-number-level c =
     (λ e. omega (arith, agreeing a.steps.now a.faces a.positions e, c.number-base.ensures.0, c.number.ensures.0))
 
 pub walk_to-walked-requires : goal.walk_to-walked-requires
-walk_to-walked-requires c =
-    (
-      formed_marks c.requires.0 (c.if-not-formed.false),
-      omega (arith, c.number.ensures.0),
-      omega (arith, c.requires.1, c.number-base.ensures.0),
-    )
+walk_to-walked-requires c = (
+  formed_marks c.requires.0 (c.if-not-formed.false),
+  omega (arith, c.number.ensures.0),
+  omega (arith, c.requires.1, c.number-base.ensures.0),
+)
 
 pub returns-then-walked-faces : goal.returns-then-walked-faces
 returns-then-walked-faces c =

@@ -12,10 +12,10 @@ returns-then-names_corner c = let a = c.args in
 
 pub loop-j-preserved : goal.loop-j-preserved
 loop-j-preserved c = let a = c.args in (
-      search rules,
-      all_more (other_corner a.steps.now a.step a.i) c.loop-j.j c.loop-j.invariant.1
-          (sym (other_named a.steps.now a.step a.i c.loop-j.j c.requires c.names_corner.ensures) ∙ ap not c.if-names_corner.false),
-    )
+  search rules,
+  all_more (other_corner a.steps.now a.step a.i) c.loop-j.j c.loop-j.invariant.1
+      (sym (other_named a.steps.now a.step a.i c.loop-j.j c.requires c.names_corner.ensures) ∙ ap not c.if-names_corner.false),
+)
 
 pub returns : goal.returns
 returns c = let a = c.args in

@@ -7,12 +7,12 @@ use Rattle.progressive.proofs.show.filled.Goals.{then-table-at, else-table-at}
 
 pub loop-i-preserved : goal.loop-i-preserved
 loop-i-preserved c = let a = c.args in (
-      search rules,
-      elim c.if-table-at.branch [
-        then-table-at w ↦ w.same-is ∙ not_shown (from a.at) (always a.value) a.table.now c.loop-i.i c.loop-i.invariant.1 w.if-table-at.true
-      | else-table-at w ↦ w.same-is ∙ still_shown (from a.at) (always a.value) a.table.now c.loop-i.i c.loop-i.invariant.1 w.if-table-at.false
-      ],
-    )
+  search rules,
+  elim c.if-table-at.branch [
+    | then-table-at w ↦ w.same-is ∙ not_shown (from a.at) (always a.value) a.table.now c.loop-i.i c.loop-i.invariant.1 w.if-table-at.true
+    | else-table-at w ↦ w.same-is ∙ still_shown (from a.at) (always a.value) a.table.now c.loop-i.i c.loop-i.invariant.1 w.if-table-at.false
+  ],
+)
 
 pub returns : goal.returns
 returns c = let a = c.args in
