@@ -1,18 +1,18 @@
 -- The blocks of a whole file: the first block, what is told after it, and the buffers that hold the result. Assumes nothing.
-use mathlib.Core.Path.{◌≡◌, refl, ap, sym, ◌∙◌}
+use mathlib.Core.Path.{◌≡◌, refl, ap, ◌∙◌}
 use mathlib.Core.Bool.{Bool, true, false}
 use mathlib.Core.List.{List, ◌++◌}
 use Prim.Native.Nat.{ℕ, ◌+◌, ◌*◌, ◌<◌, ◌≤◌}
 use native.Mathlib.Omega.{arith}
-use borrow.Author.Tests.{eqb-true, ltb-true, ltb-false, lt-ltb, le-ltb}
+use borrow.Author.Tests.{eqb-true, ltb-false, lt-ltb, le-ltb}
 use lib.Dec.{eqb, ltb}
 use lib.ListN.{length, drop}
 use lib.Seq.{sets, sets-eq}
 use Rattle.fields.specs.Numbers.{truncated, over_limit, bad_header, no_room}
 use Rattle.fields.specs.Limits.{largest_file}
-use Rattle.fields.specs.Judged.{Judged, done, refused, on_done, refused_if, buffer_after}
+use Rattle.fields.specs.Judged.{Judged, done, refused, buffer_after}
 use Rattle.fields.specs.declared.numbers.Refusal.{Refusal}
-use Rattle.fields.proofs.Judging.{not_done, value_before, refusal_before, passed, same_done}
+use Rattle.fields.proofs.Judging.{value_before, refusal_before, passed, same_done}
 use Rattle.blocks.specs.Kind.{header_type}
 use Rattle.blocks.specs.Head.{head_size, data_size_at, head_at, extent_of, room_of, paddings_of}
 use Rattle.blocks.specs.Header.{least_data, data_size_of, version_of, sizes_of, fields_of, rest_of, sized_of, judged_of, first_of}
@@ -20,7 +20,7 @@ use Rattle.blocks.specs.Block.{levels}
 use Rattle.blocks.specs.Walk.{row_of, walk_of}
 use Rattle.blocks.specs.Told.{row_width, row_words, all_of}
 use Rattle.blocks.specs.Inside.{bytes_of, told_with, stored, answer_of, ToldFits, none_told, told_of}
-use Rattle.blocks.specs.File.{after_first, file_of, file_words, walk_in, file_lines, lines_of, lines_in, count_size, lines_within}
+use Rattle.blocks.specs.File.{after_first, file_of, file_words, walk_in, file_lines, lines_of, lines_in}
 use Rattle.blocks.specs.declared.header.First.{First}
 use Rattle.blocks.specs.declared.header.Sizes.{Sizes}
 use Rattle.blocks.specs.declared.header.Version.{Version}
@@ -172,77 +172,39 @@ module _ (s table : List ℕ) where
       let t = le-ltb (length table) (length (file_words s)) (omega (arith, q.3)) in
       (rw (q.1, t, q.2), rw (q.1, t) (x ∙ at_start (file_words s) table (omega (arith, q.3))))
 
--- the lines, and the bytes that they take
-module _ (s : List ℕ) where
+-- the lines in a text
+module _ (s text : List ℕ) where
+  abbrev pub Texts : Judged Told → List ℕ → Type 0
+  Texts answer text' = (answer ≡ lines_in s text) × (text' ≡ buffer_after (lines_in s text) (file_lines s) text)
+
   pub lines_told : told_of true s ≡ lines_of s
   unfolding told_of lines_of file_lines
   lines_told = refl
+
+  pub lines_refused : (n p : ℕ) → lines_of s ≡ refused n p → Texts (refused n p) text
+  unfolding lines_in
+  lines_refused n p e = (rw e, rw e)
 
   pub byte_count : (told : Told) → lines_of s ≡ done told → length (file_lines s) ≡ told.bytes
   unfolding lines_of bytes_in
   byte_count told e = ap (λ (t : Judged Told). bytes_in t) (value_before (file_of s).ending _ told e).2
 
--- the lines in a text, and room for more after them
-module _ (s text : List ℕ) (after : ℕ) (counted : Bool) where
-  abbrev pub Texts : Judged Told → List ℕ → Type 0
-  Texts answer text' = (answer ≡ lines_within s after counted text) × (text' ≡ buffer_after (lines_within s after counted text) (file_lines s) text)
+  pub lines_short : (told : Told) → lines_of s ≡ done told → length text < told.bytes → Texts (refused no_room 0) text
+  unfolding lines_in
+  lines_short told e h =
+      let t = lt-ltb (length text) (length (file_lines s)) (omega (arith, byte_count told e)) in
+      (rw (e, t), rw (e, t))
 
-  -- all of that, by the numbers that were measured
-  abbrev pub needed : Told → ℕ
-  needed told = told.bytes + (after + count_size counted told.blocks)
+  -- lines that fit are taken
+  pub lines_fit : (told : Told) → lines_of s ≡ done told → told.bytes ≤ length text → lines_in s text ≡ done told
+  unfolding lines_in
+  lines_fit told e h = rw (e, le-ltb (length text) (length (file_lines s)) (omega (arith, byte_count told e)))
 
-  room : (told : Told) → lines_of s ≡ done told
-      → ltb (length text) (length (file_lines s) + (after + count_size counted told.blocks)) ≡ ltb (length text) (needed told)
-  room told e = ap (λ (n : ℕ). ltb (length text) (n + (after + count_size counted told.blocks))) (byte_count s told e)
-
-  pub lines_refused : (n p : ℕ) → lines_of s ≡ refused n p → Texts (refused n p) text
-  unfolding lines_within
-  lines_refused n p e = (rw e, rw e)
-
-  pub lines_short : (told : Told) → lines_of s ≡ done told → ltb (length text) (needed told) ≡ true → Texts (refused no_room 0) text
-  unfolding lines_within
-  lines_short told e h = let t = room told e ∙ h in (rw (e, t), rw (e, t))
-
-  pub lines_done : (told : Told) (text' : List ℕ) → lines_of s ≡ done told → ltb (length text) (needed told) ≡ false
-      → text' ≡ sets text 0 (file_lines s) → Texts (done told) text'
-  unfolding lines_within
+  pub lines_done : (told : Told) (text' : List ℕ) → lines_of s ≡ done told → told.bytes ≤ length text → text' ≡ sets text 0 (file_lines s) → Texts (done told) text'
+  unfolding lines_in
   lines_done told text' e h x =
-      let t = room told e ∙ h in
-      let fit = ltb-false (length text) (needed told) h in
-      (rw (e, t), rw (e, t) (x ∙ at_start (file_lines s) text (omega (arith, byte_count s told e, fit))))
-
-  -- what an answer says of the file and of the room
-  pub within_done : (told : Told) → lines_within s after counted text ≡ done told → (lines_of s ≡ done told) × (needed told ≤ length text)
-  unfolding lines_within
-  within_done told e =
-      let q = value_before (lines_of s) _ told e in
-      let r = passed (ltb (length text) _) no_room 0 (done q.0) told q.2 in
-      let same = ap done (same_done r.1) in
-      let d = q.1 ∙ same in
-      (d, ltb-false (length text) (needed told) (sym (room told d) ∙ rw (same_done r.1) at r.0))
-
-  pub within_refused : (n p : ℕ) → lines_within s after counted text ≡ refused n p → (n ≡ no_room → ⊥) → lines_of s ≡ refused n p
-  unfolding lines_within
-  within_refused n p e h = by (lines_of s) e where
-    short : (t : Bool) (told : Told) → refused_if t no_room 0 (done told) ≡ refused n p → n ≡ no_room
-    short true told e = cc
-    short false told e = not_done (sym e)
-
-    by : (j : Judged Told) → on_done j (λ told. refused_if (ltb (length text) (length (file_lines s) + (after + count_size counted told.blocks))) no_room 0 (done told)) ≡ refused n p → j ≡ refused n p
-    by (done told) e = absurd (h (short (ltb (length text) _) told e))
-    by (refused m k) e = e
-
-  pub within_short : (told : Told) (n p : ℕ) → lines_of s ≡ done told → lines_within s after counted text ≡ refused n p → length text < needed told
-  unfolding lines_within
-  within_short told n p d e = ltb-true (length text) (needed told) (sym (room told d) ∙ short (ltb (length text) _) (rw d at e)) where
-    short : (t : Bool) → refused_if t no_room 0 (done told) ≡ refused n p → t ≡ true
-    short true e = refl
-    short false e = not_done (sym e)
-
--- nothing after the lines
-pub lines_alone : (s text : List ℕ) → lines_within s 0 false text ≡ lines_in s text
-unfolding lines_within lines_in
-lines_alone s text = let z : length (file_lines s) + 0 ≡ length (file_lines s) = omega arith in rw z
+      let t = le-ltb (length text) (length (file_lines s)) (omega (arith, byte_count told e)) in
+      (rw (e, t), rw (e, t) (x ∙ at_start (file_lines s) text (omega (arith, byte_count told e))))
 
 -- the table and the text that a whole file leaves
 pub words_stored : (s table text : List ℕ) (lines : Bool) → (stored table text none_told lines (file_of s)).table ≡ sets table 0 (file_words s)

@@ -1,13 +1,11 @@
 -- The blocks of a whole file (01, "Blocks"): the header first, then the blocks at the top. "The block walk and the climb text judge 12
 -- last".
-use Rattle.std.specs.Prelude.{ℕ, ◌+◌, List, [], ◌∷◌, Bool, false, ltb, length}
-use Rattle.fields.specs.Numbers.{no_room}
-use Rattle.fields.specs.Judged.{Judged, done, refused_by, on_done, refused_if, room_for, buffer_after, pick}
-use Rattle.text.specs.Digits.{decimal_field}
+use Rattle.std.specs.Prelude.{ℕ, List, [], ◌∷◌, false, length}
+use Rattle.fields.specs.Judged.{Judged, done, refused_by, on_done, room_for}
 use Rattle.blocks.specs.Block.{levels}
 use Rattle.blocks.specs.Header.{first_of}
 use Rattle.blocks.specs.Walk.{Outcome, tells, on_judged, and_then, row_of, walk_of}
-use Rattle.blocks.specs.Told.{row_words, line_feed, line_of, all_of}
+use Rattle.blocks.specs.Told.{row_words, line_of, all_of}
 use Rattle.blocks.specs.declared.header.First.{First}
 use Rattle.blocks.specs.declared.tell.Told.{Told}
 use Rattle.blocks.specs.declared.file.Walk as walk
@@ -38,19 +36,6 @@ lines_of s = on_done (file_of s).ending λ _. done (record { blocks = length (fi
 
 unfoldable pub lines_in : List ℕ → List ℕ → Judged Told
 lines_in s text = on_done (lines_of s) λ told. room_for (file_lines s) text told
-
--- the same where so many bytes more have room after the lines, and where it is asked for the number of blocks, ended by a line feed;
--- and the text then
-abbrev pub count_size : Bool → ℕ → ℕ
-count_size counted blocks = pick counted (length (decimal_field blocks line_feed)) 0
-
-unfoldable pub lines_within : List ℕ → ℕ → Bool → List ℕ → Judged Told
-lines_within s after counted text =
-    on_done (lines_of s) λ told.
-    refused_if (ltb (length text) (length (file_lines s) + (after + count_size counted told.blocks))) no_room 0 (done told)
-
-abbrev pub text_within : List ℕ → ℕ → Bool → List ℕ → List ℕ
-text_within s after counted text = buffer_after (lines_within s after counted text) (file_lines s) text
 
 -- 01's number, place and values of each case
 abbrev pub walk_given : walk.Walk → Judged ℕ

@@ -1,18 +1,17 @@
 // The blocks of a whole file, as rows in a table or as lines of text. The file is judged whole first, and then stored.
-ghost use Rattle.std.specs.Prelude.{◌≡◌, ◌+◌, ◌≤◌, ltb, length};
+ghost use Rattle.std.specs.Prelude.{◌≡◌, ◌≤◌, length};
 ghost use Rattle.fields.specs.Limits.{largest_file};
 ghost use Rattle.fields.specs.Judged.{buffer_after};
 ghost use Rattle.blocks.specs.Inside.{rest_stored, file_stored, walked_given, answer_of, ToldFits};
-ghost use Rattle.blocks.specs.File.{file_words, walk_in, walk_given, file_lines, lines_of, lines_in, lines_given, count_size, lines_within, text_within};
+ghost use Rattle.blocks.specs.File.{file_words, walk_in, walk_given, file_lines, lines_of, lines_in, lines_given};
 ghost use Rattle.blocks.specs.Inside.{told_of};
 
 use crate::block::LEVELS;
 use crate::chain::Run;
 use crate::header::{First, FirstBlock, first_block};
-use crate::tell::{ROW_WIDTH, tell_first};
+use crate::tell::{ROW_WIDTH, Told, tell};
 use crate::walk::{Walked, row_of, walk};
 use fields::numbers::{NO_ROOM, Refusal};
-use text::line::put_decimal;
 
 // The answer to a walk: so many blocks.
 #[derive(Drop)]
@@ -36,7 +35,11 @@ fn walk_after(file: &[u8], first: First, table: &mut [u32], text: &mut [u8], lin
     ensures text_after { text.new ≡ (rest_stored table.old text.old lines file.now first).text }
     ensures told_fits { ToldFits largest_file result }
 {
-    let told = tell_first(table, text, row_of(0, first.head, LEVELS), lines);
+    let none = Told {
+        blocks: 0,
+        bytes: 0,
+    };
+    let told = tell(table, text, none, row_of(0, first.head, LEVELS), lines);
     let run = Run {
         at: first.next,
         count: file.len() as u32,
@@ -104,44 +107,17 @@ pub fn lines_size(file: &[u8]) -> Lines
     }
 }
 
-// The bytes of the number of blocks, ended by a line feed, where it is `counted`.
-fn count_size(blocks: usize, counted: bool) -> usize
-    ensures { result ≡ count_size counted blocks }
-{
-    let mut none = [0u8; 1];
-    if counted {
-        put_decimal(&mut none, 0, blocks as u64, b'\n')
-    } else {
-        0
-    }
-}
-
-// Whether `len` bytes can't hold three parts.
-fn lacks(len: usize, first: usize, second: usize, third: usize) -> bool
-    ensures { result ≡ ltb len (first + (second + third)) }
-{
-    if len < first {
-        true
-    } else if len - first < second {
-        true
-    } else if len - first - second < third {
-        true
-    } else {
-        false
-    }
-}
-
-// Puts a line of text for each block of a file at the start of `text`, a chain before its contents. After them `after` bytes must have
-// room, and where it is `counted` the number of blocks, ended by a line feed. A refusal leaves the text as it was.
-pub fn put_lines_within(file: &[u8], text: &mut [u8], after: usize, counted: bool) -> Lines
-    ensures result_value { lines_given result ≡ lines_within file.now after counted text.old }
-    ensures text_after { text.new ≡ text_within file.now after counted text.old }
+// Puts a line of text for each block of a file at the start of `text`, a chain before its contents. A refusal leaves the text as it
+// was.
+pub fn put_lines(file: &[u8], text: &mut [u8]) -> Lines
+    ensures result_value { lines_given result ≡ lines_in file.now text.old }
+    ensures text_after { text.new ≡ buffer_after (lines_in file.now text.old) (file_lines file.now) text.old }
 {
     let mut table = [0u32; 1];
     match lines_size(file) {
         Lines::Refused(e) => Lines::Refused(e),
         Lines::Done { blocks, bytes } => {
-            if lacks(text.len(), bytes, after, count_size(blocks, counted)) {
+            if text.len() < bytes {
                 return Lines::Refused(Refusal {
                     number: NO_ROOM,
                     place: 0,
@@ -151,13 +127,4 @@ pub fn put_lines_within(file: &[u8], text: &mut [u8], after: usize, counted: boo
             Lines::Done { blocks, bytes }
         }
     }
-}
-
-// Puts a line of text for each block of a file at the start of `text`, a chain before its contents. A refusal leaves the text as it
-// was.
-pub fn put_lines(file: &[u8], text: &mut [u8]) -> Lines
-    ensures result_value { lines_given result ≡ lines_in file.now text.old }
-    ensures text_after { text.new ≡ buffer_after (lines_in file.now text.old) (file_lines file.now) text.old }
-{
-    put_lines_within(file, text, 0, false)
 }

@@ -18,15 +18,22 @@ pub enum Kind {
 }
 
 // By a type's last byte: 1 a declaration, 2 a continuation, 0 neither.
-fn class_of(last: u32) -> u8
+const CLASSES: [u8; 256] = [
+    0, 0, 0, 0, 0, 0, 0, 0, 0, 0, 0, 0, 0, 0, 0, 0, 0, 0, 1, 0, 1, 2, 1, 0, 0, 0, 0, 0, 0, 0, 0, 0,
+    0, 1, 1, 1, 1, 0, 0, 0, 0, 0, 0, 0, 0, 0, 0, 0, 0, 1, 0, 0, 0, 0, 1, 1, 0, 0, 0, 2, 2, 0, 2, 2,
+    0, 1, 1, 1, 1, 1, 1, 0, 0, 0, 0, 0, 0, 0, 0, 0, 0, 1, 1, 1, 1, 1, 1, 0, 0, 0, 0, 0, 2, 0, 0, 0,
+    0, 0, 0, 0, 0, 0, 0, 0, 0, 0, 0, 0, 0, 0, 0, 0, 0, 0, 0, 0, 0, 0, 0, 0, 0, 0, 0, 0, 0, 0, 0, 0,
+    0, 0, 0, 0, 0, 0, 0, 0, 0, 0, 0, 0, 0, 0, 0, 0, 0, 0, 0, 0, 0, 0, 0, 0, 0, 0, 0, 0, 0, 0, 0, 0,
+    0, 0, 0, 0, 0, 0, 0, 0, 0, 0, 0, 0, 0, 0, 0, 0, 0, 0, 0, 0, 0, 0, 0, 0, 0, 0, 0, 0, 0, 0, 0, 0,
+    0, 0, 0, 0, 0, 0, 0, 0, 0, 0, 0, 0, 0, 0, 0, 0, 0, 0, 0, 0, 0, 0, 0, 0, 0, 0, 0, 0, 0, 0, 0, 0,
+    0, 0, 0, 0, 0, 0, 0, 0, 0, 0, 0, 0, 0, 0, 0, 0, 0, 0, 0, 0, 0, 0, 0, 0, 0, 0, 0, 0, 0, 0, 0, 0,
+];
+
+fn class_of(last: usize) -> u8
     requires { last < 256 }
     ensures { result ≡ class_of last }
 {
-    match last {
-        0x12 | 0x14 | 0x16 | 0x21..=0x24 | 0x31 | 0x36 | 0x37 | 0x41..=0x46 | 0x51..=0x56 => 1,
-        0x15 | 0x3B | 0x3C | 0x3E | 0x3F | 0x5C => 2,
-        _ => 0,
-    }
+    CLASSES[last]
 }
 
 // The kind of a block type.
@@ -39,7 +46,7 @@ pub fn kind_of(block_type: u32) -> Kind
     if block_type < KNOWN_TYPES {
         return Kind::Unknown;
     }
-    let class = class_of(block_type - KNOWN_TYPES);
+    let class = class_of((block_type - KNOWN_TYPES) as usize);
     if class == 1 {
         Kind::Declaration(block_type)
     } else if class == 2 {

@@ -3,7 +3,7 @@ ghost use Rattle.std.specs.Prelude.{◌≡◌, ◌*◌, ◌≤◌, length, set};
 ghost use Rattle.std.proofs.lemmas.List.Edits.{sets};
 ghost use Rattle.fields.specs.Limits.{largest_file};
 ghost use Rattle.blocks.specs.Told.{row_words, line_of, row_width};
-ghost use Rattle.blocks.specs.Inside.{bytes_of, none_told, told_with};
+ghost use Rattle.blocks.specs.Inside.{bytes_of, told_with};
 
 use text::line::{put_decimal, put_hex, put_word};
 
@@ -82,19 +82,4 @@ pub(crate) fn tell(table: &mut [u32], text: &mut [u8], told: Told, row: Row, lin
         };
     }
     Told { blocks, bytes }
-}
-
-// Tells a file's first block, as `tell` does where nothing was told before. It is apart from that so that `tell` has one caller, and is
-// compiled into the walk without the line's code.
-pub(crate) fn tell_first(table: &mut [u32], text: &mut [u8], row: Row, lines: bool) -> Told
-    ensures value { result ≡ told_with lines none_told row }
-    ensures table_after { table.new ≡ sets table.old 0 (row_words row) }
-    ensures text_after { text.new ≡ sets text.old 0 (bytes_of lines row) }
-{
-    put_row(table, 0, row);
-    let mut bytes = 0;
-    if lines {
-        bytes = put_line(text, 0, row);
-    }
-    Told { blocks: 1, bytes }
 }

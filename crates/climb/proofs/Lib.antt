@@ -1,5 +1,5 @@
 -- Laws that belong to no one function.
-pub mod FieldEnds
+pub mod Finding
 pub mod Numerals
 pub mod Lines
 pub mod Rows

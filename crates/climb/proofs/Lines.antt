@@ -5,35 +5,36 @@ use mathlib.Core.Bool.{Bool, true, false, not}
 use mathlib.Core.List.{List, [], ◌∷◌}
 use native.Mathlib.Numerals.{add-one}
 use native.Mathlib.Omega.{arith}
-use borrow.Author.Tests.{eq-eqb, le-leb, lt-leb, ne_eqb}
-use lib.ListN.{drop, length, set}
-use lib.Seq.{drop-drop, sets}
+use borrow.Author.Tests.{eq-eqb, le-leb, le-ltb, lt-leb, lt-ltb, ltb-false, ltb-true, ne_eqb}
+use lib.Dec.{leb, ltb}
+use lib.ListN.{drop, length, length-take, set, take}
+use lib.Seq.{sets, take-take}
 use Rattle.fields.specs.Judged.{Judged, done, refused, on_done, refused_if}
 use Rattle.fields.specs.Numbers.{bad_steps}
 use Rattle.fields.proofs.Judging.{passed, refusal_before, same_done, value_before}
 use Rattle.climb.specs.Digits.{is_decimal, is_pattern, value_of}
 use Rattle.climb.specs.Lines.{Form, Row, Rule, field_of, fields_after, has, line_feed, past, row_from, starts_with, tab, until}
-use Rattle.climb.specs.Inside.{is_next, next_field, number_given, number_if, row_after, row_given, rule_of, rule_row, rules_from, stored_row}
+use Rattle.climb.specs.Inside.{Found, fields_given, number_given, number_if, row_given, rule_of, rule_row, rules_from, stored_fields, stored_row}
 use Rattle.climb.specs.declared.digits.Number.{Number}
 use Rattle.climb.specs.declared.line.FieldRule.{FieldRule}
 use Rattle.climb.specs.declared.line.Row as row
-use Rattle.climb.proofs.FieldEnds.{and-false, by_byte, empty_field, ends_there, ends-within, field_feed, field_more, field_tab, true_false, starts_long}
+use Rattle.climb.proofs.Finding.{and-false}
 
 -- what follows from a value that was only handed on
-on_mapped : {A B C : Type 0} (j : Judged A) (f : A → B) (k : B → Judged C) → on_done (on_done j (λ a. done (f a))) k ≡ on_done j (λ a. k (f a))
+pub on_mapped : {A B C : Type 0} (j : Judged A) (f : A → B) (k : B → Judged C) → on_done (on_done j (λ a. done (f a))) k ≡ on_done j (λ a. k (f a))
 on_mapped (done a) f k = refl
 on_mapped (refused n p) f k = refl
 
 -- ---- a field
 
-number_given_lem : (line : ℕ) (t : Bool) (v end : ℕ) → number_given line (number_if t v end) ≡ refused_if (not t) bad_steps line (done v)
-number_given_lem line true v end = refl
-number_given_lem line false v end = refl
+number_given_lem : (line : ℕ) (t : Bool) (v : ℕ) → number_given line (number_if t v) ≡ refused_if (not t) bad_steps line (done v)
+number_given_lem line true v = refl
+number_given_lem line false v = refl
 
 module _ (rule : FieldRule) (field : List ℕ) (line : ℕ) where
-  pub field_pattern : (end : ℕ) → rule.base ≡ 16 → number_given line (number_if (is_pattern field) (value_of 16 field) end) ≡ field_of line (rule_of rule) field
+  pub field_pattern : rule.base ≡ 16 → number_given line (number_if (is_pattern field) (value_of 16 field)) ≡ field_of line (rule_of rule) field
   unfolding field_of
-  field_pattern end e = number_given_lem line (is_pattern field) (value_of 16 field) end ∙ rw (eq-eqb rule.base 16 e, field_of)
+  field_pattern e = number_given_lem line (is_pattern field) (value_of 16 field) ∙ rw (eq-eqb rule.base 16 e, field_of)
 
   module _ (other : rule.base ≡ 16 → ⊥) where
     pub field_none : is_decimal field ≡ false → refused bad_steps line ≡ field_of line (rule_of rule) field
@@ -53,159 +54,93 @@ module _ (rule : FieldRule) (field : List ℕ) (line : ℕ) where
       unfolding field_of
       field_kept l h = rw (ne_eqb rule.base 16 other, field_of, e, f, le-leb rule.least v l, le-leb v rule.most h)
 
--- a field that was judged by a row of the table
-pub field_told : (field rules : List ℕ) (i : ℕ) (rule : FieldRule) (r : Number) → rule ≡ rule_row rules i
-    → ((n : ℕ) → number_given n r ≡ field_of n (rule_of rule) field) → (n : ℕ) → number_given n r ≡ field_of n (rule_of (rule_row rules i)) field
-field_told field rules i rule r e f n = f n ∙ ap (λ (x : FieldRule). field_of n (rule_of x) field) e
+-- the field between two tabs, judged by a row of the table
+pub field_told : (line rules : List ℕ) (at end i : ℕ) (rule : FieldRule) (r : Number) → Found tab line at end → rule ≡ rule_row rules i
+    → ((n : ℕ) → number_given n r ≡ field_of n (rule_of rule) (take (end - at) (drop at line)))
+    → (n : ℕ) → number_given n r ≡ field_of n (rule_of (rule_row rules i)) (until tab (drop at line))
+field_told line rules at end i rule r f e g n =
+    rw f.before_it (g n ∙ ap (λ (x : FieldRule). field_of n (rule_of x) (take (end - at) (drop at line))) e)
 
--- ---- what is left of a line
+-- ---- the fields of a line
 
-fields_other : (n : ℕ) (rules : List Rule) (b : ℕ) (line : List ℕ) → (b ≡ tab → ⊥) → fields_after n rules (b ∷ line) ≡ fields_after n rules line
-unfolding fields_after has past
-fields_other n [] b line t = rw (ne_eqb b tab t)
-fields_other n (rule ∷ rules) b line t = rw (ne_eqb b tab t)
+module _ (rules line : List ℕ) (count i at : ℕ) (table : List ℕ) (to n : ℕ) where
+  pub fields_missing : i < count → has tab (drop at line) ≡ false
+      → stored_fields table (to + i) (fields_after n (rules_from rules i (count - i)) (drop at line)) ≡ refused bad_steps n
+  unfolding fields_after rules_from
+  fields_missing h e =
+      let k : count - i ≡ suc (count - (i + 1)) = omega arith in
+      rw (k, rules_from, fields_after, e)
 
-after_other : (rules : List Rule) (n b : ℕ) (s : List ℕ) → (b ≡ tab → ⊥) → (b ≡ line_feed → ⊥) → row_after rules n (b ∷ s) ≡ row_after rules n s
-unfolding row_after has until past
-after_other rules n b s t l = rw (ne_eqb b line_feed l, fields_other n rules b (until line_feed s) t)
-
--- the field that it starts with says nothing of those after it
-after_field : (rules : List Rule) (n : ℕ) (s : List ℕ) → row_after rules n s ≡ row_after rules n (drop (length (next_field s)) s)
-after_field rules n [] = rw empty_field
-after_field rules n (b ∷ s) =
-    by_byte b (row_after rules n (b ∷ s) ≡ row_after rules n (drop (length (next_field (b ∷ s))) (b ∷ s)))
-    (λ e. rw (field_tab b s e))
-    (λ e. rw (field_feed b s e))
-    (λ t l. rw (field_more b s t l) (after_other rules n b s t l ∙ after_field rules n s))
-
--- a text that is at a field's end goes on with a tab, with a line feed, or not at all
-at_end : (s : List ℕ) (P : List ℕ → Type 0) → next_field s ≡ [] → P [] → ((more : List ℕ) → P (tab ∷ more)) → ((more : List ℕ) → P (line_feed ∷ more)) → P s
-at_end [] P e x y z = x
-at_end (b ∷ more) P e x y z =
-    by_byte b (P (b ∷ more))
-    (λ f. rw f (y more))
-    (λ f. rw f (z more))
-    (λ t l. let w : ◌≡◌ {A = ℕ} (suc (length (next_field more))) 0 = ap length (sym (field_more b more t l) ∙ e) in absurd (omega arith))
-
-module _ (rule : Rule) (rules : List Rule) (n : ℕ) where
-  after_unparted : (s : List ℕ) → next_field s ≡ [] → is_next tab s ≡ false → row_after (rule ∷ rules) n s ≡ refused bad_steps n
-  unfolding row_after has until fields_after
-  after_unparted s e =
-      at_end s (λ l. is_next tab l ≡ false → row_after (rule ∷ rules) n l ≡ refused bad_steps n) e
-      (λ f. refl)
-      (λ more f. true_false f)
-      (λ more f. refl)
-
-  bad_by : (t : Bool) (s : List ℕ) → has line_feed s ≡ t → field_of n rule (next_field s) ≡ refused bad_steps n
-      → row_after (rule ∷ rules) n (tab ∷ s) ≡ refused bad_steps n
-  unfolding row_after has until past fields_after
-  bad_by true s e f = rw (e, f)
-  bad_by false s e f = rw e
-
-  more_by : (t : Bool) (s : List ℕ) (table : List ℕ) (to v : ℕ) → has line_feed s ≡ t → field_of n rule (next_field s) ≡ done v
-      → stored_row table to (row_after (rule ∷ rules) n (tab ∷ s)) ≡ stored_row (set table to v) (suc to) (row_after rules n s)
-  unfolding row_after has until past fields_after
-  more_by true s table to v e f =
-      rw (e, f) (on_mapped (on_done (fields_after n rules (until line_feed s)) (λ values. done (v ∷ values))) _ _
-      ∙ on_mapped (fields_after n rules (until line_feed s)) _ _ ∙ sym (on_mapped (fields_after n rules (until line_feed s)) _ _))
-  more_by false s table to v e f = rw e
-
-unended_by : (t : Bool) (n : ℕ) (s : List ℕ) → has line_feed s ≡ t → row_after [] n (tab ∷ s) ≡ refused bad_steps n
-unfolding row_after has until past fields_after
-unended_by true n s e = rw e
-unended_by false n s e = rw e
-
-after_unended : (n : ℕ) (s : List ℕ) → next_field s ≡ [] → is_next line_feed s ≡ false → row_after [] n s ≡ refused bad_steps n
-unfolding row_after has
-after_unended n s e =
-    at_end s (λ l. is_next line_feed l ≡ false → row_after [] n l ≡ refused bad_steps n) e
-    (λ f. refl)
-    (λ more f. unended_by (has line_feed more) n more refl)
-    (λ more f. true_false f)
-
-after_end : (n : ℕ) (s : List ℕ) → row_after [] n (line_feed ∷ s) ≡ done (record { values = []; rest = s })
-unfolding row_after has until past fields_after
-after_end n s = refl
-
--- ---- field by field, in a text
-
-module _ (rules text : List ℕ) (count i at : ℕ) (table : List ℕ) (to n : ℕ) where
-  module _ (h : i < count) where
-    pub fields_missing : next_field (drop at text) ≡ [] → is_next tab (drop at text) ≡ false
-        → stored_row table (to + i) (row_after (rules_from rules i (count - i)) n (drop at text)) ≡ refused bad_steps n
-    unfolding rules_from
-    fields_missing e f =
+  module _ (at' : ℕ) (h : i < count) (e : has tab (drop at line) ≡ true) (p : past tab (drop at line) ≡ drop at' line) where
+    pub fields_bad : refused bad_steps n ≡ field_of n (rule_of (rule_row rules i)) (until tab (drop at' line))
+        → stored_fields table (to + i) (fields_after n (rules_from rules i (count - i)) (drop at line)) ≡ refused bad_steps n
+    unfolding fields_after rules_from
+    fields_bad f =
         let k : count - i ≡ suc (count - (i + 1)) = omega arith in
-        rw (k, rules_from, after_unparted (rule_of (rule_row rules i)) (rules_from rules (suc i) (count - (i + 1))) n (drop at text) e f)
+        rw (k, rules_from, fields_after, e, p, ← f)
 
-    module _ (e : drop at text ≡ tab ∷ drop (at + 1) text) where
-      pub fields_bad : refused bad_steps n ≡ field_of n (rule_of (rule_row rules i)) (next_field (drop (at + 1) text))
-          → stored_row table (to + i) (row_after (rules_from rules i (count - i)) n (drop at text)) ≡ refused bad_steps n
-      unfolding rules_from
-      fields_bad f =
-          let k : count - i ≡ suc (count - (i + 1)) = omega arith in
-          rw (k, rules_from, e, bad_by (rule_of (rule_row rules i)) (rules_from rules (suc i) (count - (i + 1))) n (has line_feed (drop (at + 1) text)) (drop (at + 1) text) refl (sym f))
+    pub fields_more : (v : ℕ) → done v ≡ field_of n (rule_of (rule_row rules i)) (until tab (drop at' line))
+        → stored_fields table (to + i) (fields_after n (rules_from rules i (count - i)) (drop at line))
+        ≡ stored_fields (set table (to + i) v) (to + (i + 1)) (fields_after n (rules_from rules (i + 1) (count - (i + 1))) (drop at' line))
+    unfolding fields_after rules_from
+    fields_more v f =
+        let k : count - i ≡ suc (count - (i + 1)) = omega arith in
+        let s : to + (i + 1) ≡ suc (to + i) = omega arith in
+        rw (k, rules_from, fields_after, e, p, ← f, s, add-one) (on_mapped (fields_after n (rules_from rules (suc i) (count - suc i)) (drop at' line)) _ _)
 
-      pub fields_more : (v end : ℕ) → done v ≡ field_of n (rule_of (rule_row rules i)) (next_field (drop (at + 1) text))
-          → end ≡ at + 1 + length (next_field (drop (at + 1) text))
-          → stored_row table (to + i) (row_after (rules_from rules i (count - i)) n (drop at text))
-          ≡ stored_row (set table (to + i) v) (to + (i + 1)) (row_after (rules_from rules (i + 1) (count - (i + 1))) n (drop end text))
-      unfolding rules_from
-      fields_more v end f g =
-          let k : count - i ≡ suc (count - (i + 1)) = omega arith in
-          let s : to + (i + 1) ≡ suc (to + i) = omega arith in
-          let others = rules_from rules (suc i) (count - suc i) in
-          rw (k, rules_from, e, s, g, add-one i)
-          (more_by (rule_of (rule_row rules i)) others n (has line_feed (drop (at + 1) text)) (drop (at + 1) text) table (to + i) v refl (sym f)
-          ∙ ap (λ (j : Judged Row). stored_row (set table (to + i) v) (suc (to + i)) j) (after_field others n (drop (at + 1) text))
-          ∙ ap (λ (l : List ℕ). stored_row (set table (to + i) v) (suc (to + i)) (row_after others n l)) (drop-drop (length (next_field (drop (at + 1) text))) (at + 1) text))
+  pub fields_none : count ≤ i → (t : Bool) → has tab (drop at line) ≡ t
+      → stored_fields table (to + i) (fields_after n (rules_from rules i (count - i)) (drop at line)) ≡ refused_if t bad_steps n (done table)
+  unfolding fields_after rules_from
+  fields_none h true e =
+      let k : count - i ≡ 0 = omega arith in
+      rw (k, rules_from, fields_after, e)
+  fields_none h false e =
+      let k : count - i ≡ 0 = omega arith in
+      rw (k, rules_from, fields_after, e)
 
-  module _ (h : count ≤ i) where
-    pub fields_unended : next_field (drop at text) ≡ [] → is_next line_feed (drop at text) ≡ false
-        → stored_row table (to + i) (row_after (rules_from rules i (count - i)) n (drop at text)) ≡ refused bad_steps n
-    unfolding rules_from
-    fields_unended e f =
-        let k : count - i ≡ 0 = omega arith in
-        rw (k, rules_from, after_unended n (drop at text) e f)
+-- the last test, as the code makes it
+ended_by : (n a b : ℕ) (table : List ℕ) (t : Bool) → ltb b a ≡ t → fields_given n (leb a b) table ≡ refused_if t bad_steps n (done table)
+ended_by n a b table true e = rw (lt-leb a b (ltb-true b a e))
+ended_by n a b table false e = rw (le-leb a b (ltb-false b a e))
 
-    pub fields_ended : drop at text ≡ line_feed ∷ drop (at + 1) text
-        → stored_row table (to + i) (row_after (rules_from rules i (count - i)) n (drop at text)) ≡ done (record { values = table; rest = drop (at + 1) text })
-    unfolding rules_from
-    fields_ended e =
-        let k : count - i ≡ 0 = omega arith in
-        rw (k, rules_from, e, after_end n (drop (at + 1) text))
+pub fields_ended : (n a b : ℕ) (table : List ℕ) → fields_given n (leb a b) table ≡ refused_if (ltb b a) bad_steps n (done table)
+fields_ended n a b table = ended_by n a b table (ltb b a) refl
+
+-- ---- the first field
+
+pub first_field : (text : List ℕ) (at end stop : ℕ) → Found line_feed text at end → Found tab (take (end - at) (drop at text)) 0 stop
+    → take (at + stop - at) (drop at text) ≡ until tab (until line_feed (drop at text))
+first_field text at end stop f g =
+    let z : at + stop - at ≡ stop = omega arith in
+    let z' : stop - 0 ≡ stop = omega arith in
+    let h : stop ≤ end - at = omega (arith, g.high, length-take (end - at) (drop at text)) in
+    rw (f.before_it, z) (sym (g.before_it ∙ rw z' (take-take stop (end - at) (drop at text) h)))
 
 -- ---- a line
 
-row_unworded : (t : Bool) (form : Form) (n : ℕ) (s : List ℕ) → has line_feed s ≡ t → starts_with form.word s ≡ false → row_from form n s ≡ refused bad_steps n
-unfolding row_from
-row_unworded true form n s e f = rw (e, f)
-row_unworded false form n s e f = rw e
+module _ (text : List ℕ) (form : Form) (at end to n : ℕ) (table : List ℕ) (f : Found line_feed text at end) where
+  pub row_unended : length text ≤ end → refused bad_steps n ≡ stored_row table to (row_from form n (drop at text))
+  unfolding row_from
+  row_unended h = rw (f.there, le-ltb end (length text) h)
 
-from_after : (form : Form) (n : ℕ) (s : List ℕ) → starts_with form.word s ≡ true → row_from form n s ≡ row_after form.rules n s
-unfolding row_from row_after
-from_after form n s e = rw e
+  module _ (h : end < length text) where
+    pub row_other : starts_with form.word (drop at text) ≡ false → refused bad_steps n ≡ stored_row table to (row_from form n (drop at text))
+    unfolding row_from
+    row_other e = rw (f.there, lt-ltb end (length text) h, e)
 
-module _ (text : List ℕ) (form : Form) (at : ℕ) where
-  pub row_other : (to n : ℕ) (table : List ℕ) → starts_with form.word (drop at text) ≡ false
-      → refused bad_steps n ≡ stored_row table to (row_from form n (drop at text))
-  row_other to n table e = rw (row_unworded (has line_feed (drop at text)) form n (drop at text) refl e)
+    module _ (e : starts_with form.word (drop at text) ≡ true) (after : List ℕ) (r : Bool)
+        (g : fields_given n r after ≡ stored_fields table to (fields_after n form.rules (take (end - at) (drop at text)))) where
+      pub row_bad : r ≡ false → refused bad_steps n ≡ stored_row table to (row_from form n (drop at text))
+      unfolding row_from
+      row_bad w =
+          let k = refusal_before (fields_after n form.rules (take (end - at) (drop at text))) _ bad_steps n (sym (rw w at g)) in
+          rw (f.there, lt-ltb end (length text) h, e, f.before_it, k)
 
-  module _ (e : starts_with form.word (drop at text) ≡ true) where
-    -- the word ends within the text, and a field ends with it
-    pub word-within : at ≤ length text → at + length form.word ≤ length text
-    word-within h = omega (arith, ends-within text at h, starts_long form.word (drop at text) e)
-
-    pub word-ends : next_field (drop (at + length form.word) text) ≡ []
-    word-ends = rw (← starts_long form.word (drop at text) e) (ends_there text at)
-
-    -- a line is its word and what is left of it
-    pub row_from_lem : (to n : ℕ) (table : List ℕ)
-        → stored_row table to (row_after form.rules n (drop (at + length form.word) text)) ≡ stored_row table to (row_from form n (drop at text))
-    row_from_lem to n table =
-        let same : row_after form.rules n (drop at text) ≡ row_after form.rules n (drop (at + length form.word) text) =
-        after_field form.rules n (drop at text) ∙ rw (starts_long form.word (drop at text) e, drop-drop (length form.word) at text) in
-        ap (λ (j : Judged Row). stored_row table to j) (sym (from_after form n (drop at text) e ∙ same))
+      pub row_done : r ≡ true → done (record { values = after; rest = drop (end + 1) text }) ≡ stored_row table to (row_from form n (drop at text))
+      unfolding row_from
+      row_done w =
+          let k = value_before (fields_after n form.rules (take (end - at) (drop at text))) _ after (sym (rw w at g)) in
+          rw (f.there, lt-ltb end (length text) h, e, f.before_it, k.1, same_done k.2, f.after_it)
 
 -- ---- what a caller learns
 

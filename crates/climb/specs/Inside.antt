@@ -1,11 +1,11 @@
 -- Inside the crate: what its private functions promise. No public promise cites this file.
-use Rattle.std.specs.Prelude.{ℕ, zero, suc, ◌+◌, ◌*◌, ◌≤◌, ◌≡◌, Bool, true, false, ◌&&◌, not, List, [], ◌∷◌, eqb, leb, ltb, drop, get_or, length}
+use Rattle.std.specs.Prelude.{ℕ, zero, suc, ◌+◌, ◌-◌, ◌*◌, ◌≤◌, ◌≡◌, Bool, true, false, ◌&&◌, not, List, [], ◌∷◌, eqb, leb, ltb, drop, get_or, length, take}
 use Rattle.std.proofs.lemmas.List.Edits.{sets}
 use Rattle.fields.specs.Limits.{any_number}
 use Rattle.fields.specs.Numbers.{bad_steps}
 use Rattle.fields.specs.Judged.{Judged, done, refused, on_done, pick, refused_if}
-use Rattle.climb.specs.Digits.{are_digits, digit_value, is_digit, value_of}
-use Rattle.climb.specs.Lines.{Form, Row, Rule, decimal, pattern, fields_after, has, line_feed, past, tab, until, row_from}
+use Rattle.climb.specs.Digits.{are_digits, value_of}
+use Rattle.climb.specs.Lines.{Form, Row, Rule, decimal, pattern, fields_after, has, past, until, row_from}
 use Rattle.climb.specs.Climb.{Taken, end_form, is_empty}
 use Rattle.climb.specs.declared.digits.Number as number
 use Rattle.climb.specs.declared.line.FieldRule.{FieldRule}
@@ -16,50 +16,30 @@ use Rattle.climb.specs.declared.steps.Words as words
 
 -- ---- bytes
 
--- the text goes on with that byte
-abbrev pub is_next : ℕ → List ℕ → Bool
-is_next byte [] = false
-is_next byte (b ∷ more) = eqb b byte
-
--- the field that the text goes on with: up to the next tab or line feed
-abbrev pub next_field : List ℕ → List ℕ
-next_field text = until tab (until line_feed text)
-
--- every byte is above a line feed, so that none ends a field
-unfoldable pub is_word : List ℕ → Bool
-is_word [] = true
-is_word (b ∷ more) = ltb line_feed b && is_word more
+-- r is the index of the next such byte from `from` on, or the length
+pub record Found (stop : ℕ) (s : List ℕ) (from r : ℕ) : Type 0 where
+  pub low : from ≤ r
+  pub high : r ≤ length s
+  pub before_it : until stop (drop from s) ≡ take (r - from) (drop from s)
+  pub there : has stop (drop from s) ≡ ltb r (length s)
+  pub after_it : past stop (drop from s) ≡ drop (r + 1) s
 
 -- ---- numbers
-
--- the value of a digit in that base, and 16 for any other byte
-abbrev pub digit_or : ℕ → ℕ → ℕ
-digit_or base b = pick (is_digit base b) (digit_value b) 16
 
 -- digits of that base that write a number below 2^32
 abbrev pub is_number : ℕ → List ℕ → Bool
 is_number base digits = are_digits base digits && leb (value_of base digits) any_number
 
--- the number and where its field ends, where the test holds
-abbrev pub number_if : Bool → ℕ → ℕ → number.Number
-number_if true v end = number.TheVariants.Value v end
-number_if false v end = number.TheVariants.Bad
-
--- the number that the field at `at` writes in that base, where the field passes the test
-abbrev pub number_at : (List ℕ → Bool) → ℕ → List ℕ → ℕ → number.Number
-number_at test base text at =
-    number_if (test (next_field (drop at text))) (value_of base (next_field (drop at text))) (at + length (next_field (drop at text)))
+-- the number where the test holds
+abbrev pub number_if : Bool → ℕ → number.Number
+number_if true v = number.TheVariants.Value v
+number_if false v = number.TheVariants.Bad
 
 -- ---- fields and lines
 
 abbrev pub number_given : ℕ → number.Number → Judged ℕ
-number_given line (number.TheVariants.Value v end) = done v
+number_given line (number.TheVariants.Value v) = done v
 number_given line number.TheVariants.Bad = refused bad_steps line
-
--- a number that was read ends where the field at `at` ends
-abbrev pub NumberEnds : List ℕ → ℕ → number.Number → Type 0
-NumberEnds text at (number.TheVariants.Value v end) = end ≡ at + length (next_field (drop at text))
-NumberEnds text at number.TheVariants.Bad = Unit {0}
 
 -- rule i of a table of three numbers a rule
 abbrev pub rule_row : List ℕ → ℕ → FieldRule
@@ -77,12 +57,16 @@ rules_from rules i (suc n) = rule_of (rule_row rules i) ∷ rules_from rules (su
 abbrev pub form_of : List ℕ → List ℕ → ℕ → Form
 form_of word rules count = record { word = word; rules = rules_from rules 0 count }
 
--- the numbers of the fields after the first one in what is left of a line, and the text after the line
-unfoldable pub row_after : List Rule → ℕ → List ℕ → Judged Row
-row_after rules line text =
-    refused_if (not (has line_feed text)) bad_steps line
-    (on_done (fields_after line rules (until line_feed text)) λ values.
-    done (record { values = values; rest = past line_feed text }))
+-- what a table holds where a line's numbers keep their rules
+abbrev pub fields_given : ℕ → Bool → List ℕ → Judged (List ℕ)
+fields_given line true table = done table
+fields_given line false table = refused bad_steps line
+
+abbrev pub stored_fields : List ℕ → ℕ → Judged (List ℕ) → Judged (List ℕ)
+stored_fields table to fields = on_done fields λ values. done (sets table to values)
+
+abbrev pub FieldsRead : List ℕ → List Rule → List ℕ → ℕ → Bool → List ℕ → Type 0
+FieldsRead fields rules table to r after = (line : ℕ) → fields_given line r after ≡ stored_fields table to (fields_after line rules fields)
 
 -- a table with a line's numbers, and the text after the line
 abbrev pub row_given : List ℕ → ℕ → row.Row → List ℕ → Judged Row
@@ -91,10 +75,6 @@ row_given text line row.TheVariants.Bad table = refused bad_steps line
 
 abbrev pub stored_row : List ℕ → ℕ → Judged Row → Judged Row
 stored_row table to j = on_done j λ row. done (record { values = sets table to row.values; rest = row.rest })
-
-abbrev pub FieldsRead : List ℕ → ℕ → List ℕ → ℕ → List ℕ → ℕ → row.Row → List ℕ → Type 0
-FieldsRead text at rules count table to r after =
-    (line : ℕ) → row_given text line r after ≡ stored_row table to (row_after (rules_from rules 0 count) line (drop at text))
 
 abbrev pub RowRead : List ℕ → ℕ → Form → List ℕ → ℕ → row.Row → List ℕ → Type 0
 RowRead text at form table to r after = (line : ℕ) → row_given text line r after ≡ stored_row table to (row_from form line (drop at text))

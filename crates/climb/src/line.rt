@@ -1,12 +1,16 @@
-// A line of the text: its first field is a word, and a table of rules judges the others. A line is read once, from byte to byte.
-ghost use Rattle.std.specs.Prelude.{◌≡◌, true, [], ℕ, ◌+◌, ◌*◌, ◌≤◌, ◌<◌, drop, length};
+// A line of the text: its first field is a word, and a table of rules judges the others.
+ghost use Rattle.std.specs.Prelude.{◌≡◌, ℕ, ◌+◌, ◌*◌, ◌≤◌, ◌<◌, drop, length};
 ghost use Rattle.climb.specs.Lines.{field_of, starts_with};
-ghost use Rattle.climb.specs.Inside.{FieldsRead, NumberEnds, RowRead, RowWithin, form_of, is_word, next_field, number_given, rule_of, rule_row};
+ghost use Rattle.climb.specs.Inside.{FieldsRead, RowRead, RowWithin, form_of, number_given, rule_of, rule_row, rules_from};
 
-use crate::bytes::{LINE_FEED, TAB, ends_field, is_at};
+use crate::bytes::find;
 use crate::digits::{Number, decimal, pattern};
 use fields::name::is_same;
 use fields::words::put;
+
+const TAB: u8 = 9;
+
+const LINE_FEED: u8 = 10;
 
 // What a field may hold: a decimal (base 10) from `least` to `most`, or a bit pattern (base 16).
 #[derive(Drop)]
@@ -36,16 +40,14 @@ fn rule_at(rules: &[u32], i: usize) -> FieldRule
     }
 }
 
-// The number of the field at `at`, judged by a rule.
-fn read_field(text: &[u8], at: usize, rule: FieldRule) -> Number
-    requires { at ≤ length text.now }
-    ensures by_index { (line : ℕ) → number_given line result ≡ field_of line (rule_of rule) (next_field (drop at text.now)) }
-    ensures number_ends { NumberEnds text.now at result }
+// The number of a field, judged by a rule.
+fn read_field(field: &[u8], rule: FieldRule) -> Number
+    ensures { (line : ℕ) → number_given line result ≡ field_of line (rule_of rule) field.now }
 {
     if rule.base == 16 {
-        return pattern(text, at);
+        return pattern(field);
     }
-    let Number::Value(value, end) = decimal(text, at) else {
+    let Number::Value(value) = decimal(field) else {
         return Number::Bad;
     };
     if value < rule.least {
@@ -54,55 +56,41 @@ fn read_field(text: &[u8], at: usize, rule: FieldRule) -> Number
     if rule.most < value {
         return Number::Bad;
     }
-    Number::Value(value, end)
+    Number::Value(value)
 }
 
-// Reads the `count` fields after the one that ends at `from`, and the line's end, into `table`, as far as there is room.
-pub(crate) fn read_fields(
-    text: &[u8],
-    from: usize,
-    rules: &[u32],
-    count: usize,
-    table: &mut [u32],
-    to: usize,
-) -> Row
-    requires from_in_bounds { (from ≤ length text.now) × (next_field (drop from text.now) ≡ []) }
-    requires count_bound { (count ≤ 4) × (3 * count ≤ length rules.now) × (to ≤ 0x1000000) }
-    ensures fields_read { FieldsRead text.now from rules.now count table.old to result table.new }
-    ensures row_within { RowWithin text.now result }
+// Reads the `count` fields after the first into `table`, as far as there is room. Whether they keep their rules, and none is after them.
+fn read_fields(line: &[u8], rules: &[u32], count: usize, table: &mut [u32], to: usize) -> bool
+    requires { (count ≤ 4) × (3 * count ≤ length rules.now) × (to ≤ 0x1000000) }
+    ensures { FieldsRead line.now (rules_from rules.now 0 count) table.old to result table.new }
 {
-    let mut at = from;
+    let mut at = 0;
     let mut i = 0;
     while i < count {
-        if !is_at(text, at, TAB) {
-            return Row::Bad;
+        let stop = find(line, at, TAB);
+        if line.len() <= stop {
+            return false;
         }
-        let Number::Value(value, end) = read_field(text, at + 1, rule_at(rules, i)) else {
-            return Row::Bad;
+        at = stop + 1;
+        let end = find(line, at, TAB);
+        let Number::Value(value) = read_field(&line[at..end], rule_at(rules, i)) else {
+            return false;
         };
         put(table, to + i, value);
-        at = end;
         i = i + 1;
     }
-    if !is_at(text, at, LINE_FEED) {
-        return Row::Bad;
-    }
-    Row::Next(at + 1)
+    line.len() <= find(line, at, TAB)
 }
 
 // Whether a line with that first field starts at `at`.
 pub(crate) fn starts_with(text: &[u8], at: usize, word: &[u8]) -> bool
-    requires { (at ≤ length text.now) × (is_word word.now ≡ true) }
+    requires { at ≤ length text.now }
     ensures { result ≡ starts_with word.now (drop at text.now) }
 {
-    if text.len() - at < word.len() {
-        return false;
-    }
-    let end = at + word.len();
-    if !is_same(&text[at..end], word) {
-        return false;
-    }
-    ends_field(text, end)
+    let end = find(text, at, LINE_FEED);
+    let stop = find(&text[at..end], 0, TAB);
+    let first_end = at + stop;
+    is_same(&text[at..first_end], word)
 }
 
 // Reads the line at `at`, with that first field and `count` numbers, into `table` from `to` on, as far as there is room.
@@ -115,13 +103,19 @@ pub(crate) fn read_row(
     table: &mut [u32],
     to: usize,
 ) -> Row
-    requires at_in_bounds { (at ≤ length text.now) × (is_word word.now ≡ true) }
-    requires count_bound { (count ≤ 4) × (3 * count ≤ length rules.now) × (to ≤ 0x1000000) }
+    requires { (at ≤ length text.now) × (count ≤ 4) × (3 * count ≤ length rules.now) × (to ≤ 0x1000000) }
     ensures row_read { RowRead text.now at (form_of word.now rules.now count) table.old to result table.new }
     ensures row_within { RowWithin text.now result }
 {
+    let end = find(text, at, LINE_FEED);
+    if text.len() <= end {
+        return Row::Bad;
+    }
     if !starts_with(text, at, word) {
         return Row::Bad;
     }
-    read_fields(text, at + word.len(), rules, count, table, to)
+    if !read_fields(&text[at..end], rules, count, table, to) {
+        return Row::Bad;
+    }
+    Row::Next(end + 1)
 }

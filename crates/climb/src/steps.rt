@@ -1,10 +1,10 @@
 // The lines of the text one after the other: rows of one form, steps, and the whole text.
-ghost use Rattle.std.specs.Prelude.{◌≡◌, true, ◌+◌, ◌*◌, ◌≤◌, drop, length};
+ghost use Rattle.std.specs.Prelude.{◌≡◌, ◌+◌, ◌*◌, ◌≤◌, drop, length};
 ghost use Rattle.fields.specs.Limits.{most_steps};
 ghost use Rattle.climb.specs.Climb.{climb_of, rows_from, step_from, steps_from};
-ghost use Rattle.climb.specs.Inside.{TakenWithin, Within, end_from, end_given, form_of, is_word, stored, stored_text, taken_given, text_given};
+ghost use Rattle.climb.specs.Inside.{TakenWithin, Within, end_from, end_given, form_of, stored, stored_text, taken_given, text_given};
 
-use crate::line::{Row, read_fields, read_row, starts_with};
+use crate::line::{Row, read_row, starts_with};
 use fields::limits::{LARGEST_COUNT, LARGEST_U32 as ANY, MOST_MOVES, MOST_NEW_FACES, MOST_STEPS};
 use fields::words::put;
 
@@ -49,8 +49,7 @@ fn read_rows(
     most: u32,
     table: &mut [u32],
 ) -> Taken
-    requires width_bound { (width ≤ 4) × (3 * width ≤ length rules.now) × (most ≤ 0x100) × Within text.now 0x800000 0x800000 from }
-    requires word_value { is_word word.now ≡ true }
+    requires { (width ≤ 4) × (3 * width ≤ length rules.now) × (most ≤ 0x100) × Within text.now 0x800000 0x800000 from }
     ensures table_after { taken_given text.now result table.new ≡ stored 0 table.old from.to (rows_from (form_of word.now rules.now width) most from.line (drop from.at text.now)) }
     ensures taken_within { TakenWithin text.now (from.line + most) (from.to + 4 * most) result }
 {
@@ -62,7 +61,7 @@ fn read_rows(
         if !starts_with(text, at, word) {
             return Taken::Read(count, Place { at, line, to });
         }
-        let Row::Next(next) = read_fields(text, at + word.len(), rules, width, table, to) else {
+        let Row::Next(next) = read_row(text, at, word, rules, width, table, to) else {
             return Taken::Bad(line);
         };
         at = next;

@@ -1,7 +1,7 @@
 -- A reader's state stays well formed, on any stream of bits: where its number lies from low to high before a symbol to which it is
 -- pointed, it does so after it, and the pending bits stay inverted.
 use Rattle.std.proofs.Common.{◌≡◌, ℕ, zero, suc, ◌+◌, ◌-◌, ◌*◌, ◌/◌, ◌<◌, ◌≤◌, refl, ap, ◌∙◌, ⊎_elim, not-suc-le-zero, eq-or-lt_of_le, mul-div_cancel, arith, eqb-true}
-use Rattle.coder.proofs.Limits.{Ordered, narrow_ordered, postpone_cases, settle_cases, turned_wellformed}
+use Rattle.coder.proofs.Limits.{Ordered, after_wellformed, narrow_ordered, postpone_cases, settle_cases}
 use Rattle.coder.proofs.Narrowing.{cut_back, cut_high, cut_low}
 use Rattle.coder.proofs.Streams.{fifteen, sixteen, word_below}
 use Rattle.coder.specs.Inside.{Reading}
@@ -12,11 +12,11 @@ use Rattle.coder.specs.declared.interval.Coder.{Coder}
 use Rattle.coder.specs.declared.interval.Span.{Span}
 
 -- the number that a reader finds lies from low to high
-pub record Within (s : Coder) (x : Stream) : Type 0 where
-  pub from_low : s.low ≤ code s x
-  pub to_high : code s x ≤ s.high
+record Within (s : Coder) (x : Stream) : Type 0 where
+  from_low : s.low ≤ code s x
+  to_high : code s x ≤ s.high
 
-pub settle_top-within : (s : Coder) (x : Stream) → Binary x → Ordered s → s.low / 0x8000 ≡ s.high / 0x8000 → Within s x → Within (settle_top s) x
+settle_top-within : (s : Coder) (x : Stream) → Binary x → Ordered s → s.low / 0x8000 ≡ s.high / 0x8000 → Within s x → Within (settle_top s) x
 unfolding code
 settle_top-within s x two o top a =
     let q : ℕ = s.settled + 1 + s.pending in
@@ -32,7 +32,7 @@ module _ (s : Coder) (x : Stream) (two : Binary x) (l : s.low / 0x4000 ≡ 1) (u
   q = s.settled + 1 + s.pending
 
   -- the bit that is passed over
-  pub skipped : x q ≡ 1 - x s.settled
+  skipped : x q ≡ 1 - x s.settled
   unfolding code
   skipped =
       let b : ℕ = x s.settled in
@@ -44,7 +44,7 @@ module _ (s : Coder) (x : Stream) (two : Binary x) (l : s.low / 0x4000 ≡ 1) (u
       let upper : b * 0x8000 + word x q 15 ≤ s.high = a.to_high in
       omega arith
 
-  pub postpone-within : Within (postpone s) x
+  postpone-within : Within (postpone s) x
   unfolding code
   postpone-within =
       let b : ℕ = x s.settled in
@@ -63,7 +63,7 @@ module _ (s : Coder) (x : Stream) (two : Binary x) (l : s.low / 0x4000 ≡ 1) (u
       ⊎_elim (λ (k : i ≡ s.pending). ap (λ (j : ℕ). x (s.settled + 1 + j)) k ∙ skipped) (λ (k : i < s.pending). v i k)
       (eq-or-lt_of_le (let m : i ≤ s.pending = omega arith in m))
 
-pub settle_within : (n : ℕ) (s : Coder) (x : Stream) → Binary x → Ordered s → Within s x → Within (settle_tops n s) x
+settle_within : (n : ℕ) (s : Coder) (x : Stream) → Binary x → Ordered s → Within s x → Within (settle_tops n s) x
 unfolding settle_tops
 settle_within zero s x two o a = a
 settle_within (suc n) s x two o a =
@@ -99,21 +99,6 @@ postpones_inverted (suc n) s x two a v =
     (λ e. v)
     (λ e. v)
 
--- All turns, of any interval.
-module _ (s : Coder) (x : Stream) (two : Binary x) (o : Ordered s) (a : Within s x) where
-  settled_within : Within (settle_tops 16 s) x
-  settled_within = settle_within 16 s x two o a
-
-  -- The number that a reader finds lies from low to high after them, too.
-  pub turned_reading : Reading (postpones 16 (settle_tops 16 s)) x
-  turned_reading =
-      let w : Within (postpones 16 (settle_tops 16 s)) x = postpones-within 16 _ x two settled_within in
-      record { limits = turned_wellformed s o; from_low = w.from_low; to_high = w.to_high }
-
-  -- The pending bits are inverted after them, too.
-  pub turned_inverted : Inverted s x → Inverted (postpones 16 (settle_tops 16 s)) x
-  turned_inverted v = postpones_inverted 16 _ x two settled_within (settle_inverted 16 s x v)
-
 -- a reader is pointed to a place below the total
 pub target_below : (s : Coder) (x : Stream) (t : ℕ) → Reading s x → 0 < t → target s x t < t
 unfolding target
@@ -126,7 +111,7 @@ target_below s x t r some =
 
 module _ (s : Coder) (a : Span) (x : Stream) (two : Binary x) (r : Reading s x) (c : Codable a)
     (l : a.start ≤ target s x a.total) (u : target s x a.total < a.start + a.weight) where
-  pub narrow_within : Within (narrow s a) x
+  narrow_within : Within (narrow s a) x
   unfolding narrow target code
   narrow_within =
       let n : ℕ = x s.settled * 0x8000 + word x (s.settled + 1 + s.pending) 15 in
@@ -140,14 +125,20 @@ module _ (s : Coder) (a : Span) (x : Stream) (two : Binary x) (r : Reading s x) 
       let q : d < range s * (a.start + a.weight) / a.total = cut_high (range s) a.total d r_some t_some (a.start + a.weight) (rw e at u) in
       record { from_low = omega arith; to_high = omega arith }
 
-  -- So they are after the symbol.
+  settled_within : Within (settle_tops 16 (narrow s a)) x
+  settled_within = settle_within 16 (narrow s a) x two (narrow_ordered s a r.limits c) narrow_within
+
+  -- The number that a reader finds lies from low to high after the symbol, too.
   pub reading_next : Reading (after_symbol s a) x
   unfolding after_symbol
-  reading_next = turned_reading (narrow s a) x two (narrow_ordered s a r.limits c) narrow_within
+  reading_next =
+      let w : Within (postpones 16 (settle_tops 16 (narrow s a))) x = postpones-within 16 _ x two settled_within in
+      record { limits = after_wellformed s a r.limits c; from_low = w.from_low; to_high = w.to_high }
 
+  -- The pending bits are inverted after it, too.
   pub inverted_next : Inverted s x → Inverted (after_symbol s a) x
   unfolding after_symbol narrow
-  inverted_next v = turned_inverted (narrow s a) x two (narrow_ordered s a r.limits c) narrow_within v
+  inverted_next v = postpones_inverted 16 _ x two settled_within (settle_inverted 16 (narrow s a) x v)
 
 -- the symbol of a static range that a reader is pointed to, and the state after it
 pub static_codable : (s : Coder) (t : ℕ) (x : Stream) → Reading s x → 0 < t → t ≤ largest_range → Codable (static_span t (target s x t))

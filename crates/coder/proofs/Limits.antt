@@ -92,16 +92,13 @@ narrow_ordered s a w g =
     let most = part_le r (a.start + a.weight) a.total g.within in
     omega arith
 
--- The limits after all turns are well formed,
-pub turned_wellformed : (s : Coder) → Ordered s → WellFormed (postpones 16 (settle_tops 16 s))
-turned_wellformed s o =
-    let p : Parted (settle_tops 16 s) = tops_parted s o in
-    postponed_apart 16 _ p (wide16 _ (omega arith))
-
--- so those after a symbol that can be coded are.
+-- The limits after a symbol that can be coded are well formed.
 pub after_wellformed : (s : Coder) (a : Span) → WellFormed s → Codable a → WellFormed (after_symbol s a)
 unfolding after_symbol
-after_wellformed s a w g = turned_wellformed (narrow s a) (narrow_ordered s a w g)
+after_wellformed s a w g =
+    let o : Ordered (narrow s a) = narrow_ordered s a w g in
+    let p : Parted (settle_tops 16 (narrow s a)) = tops_parted (narrow s a) o in
+    postponed_apart 16 _ p (wide16 _ (omega arith))
 
 -- the counts of bits: a turn settles or postpones one more
 pub record Grown (n : ℕ) (s t : Coder) : Type 0 where

@@ -249,9 +249,9 @@ run_long from count b l h =
     let middle : ℕ = 8 * (end - first) in
     let tail : ℕ = (from + count) % 8 in
     let at_first : 8 * first ≡ from + head = omega arith in
-    let at_end : 8 * end ≡ from + (head + middle) = omega arith in
+    let at-end : 8 * end ≡ from + (head + middle) = omega arith in
     let whole : head + middle + tail ≡ count = omega arith in
-    rw (at_first, run_parts head middle b l from, at_end)
+    rw (at_first, run_parts head middle b l from, at-end)
     (run_parts (head + middle) tail b l from ∙ ap (λ (n : ℕ). put_bits l from (replicate n b)) whole)
 
 -- a number's bits in two parts

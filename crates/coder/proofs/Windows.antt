@@ -1,10 +1,10 @@
--- Sixteen bits from any place stand in three bytes: each bit of the number that these make is the stream's, and bits of which the first
+-- Fifteen bits from any place stand in three bytes: each bit of the number that these make is the stream's, and bits of which the first
 -- is the highest make the number that has them in reverse order.
-use Rattle.std.proofs.Common.{◌≡◌, ℕ, zero, suc, ◌+◌, ◌-◌, ◌*◌, ◌/◌, ◌%◌, ◌^◌, ◌<◌, List, get_or, sym, refl, ap, ◌∙◌, add-zero, zero-add, div-one, arith, shr-shr}
+use Rattle.std.proofs.Common.{◌≡◌, ℕ, zero, suc, ◌+◌, ◌-◌, ◌*◌, ◌/◌, ◌%◌, ◌^◌, ◌<◌, List, get_or, sym, refl, ap, ◌∙◌, add-zero, zero-add, zero-mul, div-one, arith, shr-shr}
 use Rattle.coder.proofs.Streams.{word_first}
 use Rattle.coder.specs.Bytes.{bit_at}
 use Rattle.coder.specs.Inside.{three_at}
-use Rattle.coder.specs.Stream.{Binary, Stream, word}
+use Rattle.coder.specs.Stream.{Stream, word}
 use Rattle.coder.specs.Symbols.{reversed}
 use lib.Pow.{field, mod-mod-pow}
 
@@ -38,24 +38,21 @@ two_words : (x : Stream) → word x 0 8 * 256 + word x 8 8 ≡ word x 0 16
 unfolding word
 two_words x = omega arith
 
--- a number's own bits
-reversed_own : (n v : ℕ) → reversed n v ≡ word (bit v) 0 n
-reversed_own n v = reversed-word n v (bit v) 0 (λ i h. rw zero-add)
-
--- only the last n of them count
-pub reversed_low : (n v : ℕ) → reversed n (v % 2 ^ n) ≡ reversed n v
-reversed_low n v = reversed-word n (v % 2 ^ n) (bit v) 0 (λ i h. rw zero-add (low_bit n v i h)) ∙ sym (reversed_own n v)
-
 -- sixteen bits by two bytes
-pub two_bytes : (v : ℕ) → reversed 8 v * 256 + reversed 8 (v / 256) ≡ reversed 16 v
+pub two_bytes : (v : ℕ) → reversed 8 (v % 256) * 256 + reversed 8 (v / 256) ≡ reversed 16 v
 two_bytes v =
+    let first : reversed 8 (v % 256) ≡ word (bit v) 0 8 = reversed-word 8 (v % 256) (bit v) 0 (λ i h. rw zero-add (low_bit 8 v i h)) in
     let second : reversed 8 (v / 256) ≡ word (bit v) 8 8 = reversed-word 8 (v / 256) (bit v) 8 (λ i h. high_bit 8 v i) in
-    rw (reversed_own 8 v, second, reversed_own 16 v) (two_words (bit v))
+    let whole : reversed 16 v ≡ word (bit v) 0 16 = reversed-word 16 v (bit v) 0 (λ i h. rw zero-add) in
+    rw (first, second, whole) (two_words (bit v))
 
--- fifteen bits are the first of sixteen
-pub word_half : (x : Stream) (p n : ℕ) → Binary x → word x p (suc n) / 2 ≡ word x p n
-unfolding word
-word_half x p n two = omega (arith, two (p + n))
+-- a number twice as large has a 0 before its bits
+reversed_doubled : (n v : ℕ) → reversed (suc n) (v * 2) ≡ reversed n v
+unfolding reversed
+reversed_doubled n v =
+    let none : v * 2 % 2 ≡ 0 = omega arith in
+    let half : v * 2 / 2 ≡ v = omega arith in
+    rw (none, half, zero-mul, zero-add)
 
 module _ (l : List ℕ) (small : (i : ℕ) → get_or l i 0 < 256) where
   byte_of : (i q : ℕ) → q < 3 → three_at l i / 2 ^ (8 * q) % 2 ^ 8 ≡ get_or l (i + q) 0
@@ -72,15 +69,16 @@ module _ (l : List ℕ) (small : (i : ℕ) → get_or l i 0 < 256) where
       ∙ sym (low_bit 8 (three_at l i / 2 ^ (8 * (j / 8))) (j % 8) (omega arith))
       ∙ ap (λ (b : ℕ). bit b (j % 8)) (byte_of i (j / 8) (omega arith))
 
-  window_bit : (p i : ℕ) → i < 16 → bit (three_at l (p / 8) / 2 ^ (p % 8)) i ≡ bit_at l (p + i)
+  window_bit : (p i : ℕ) → i < 15 → bit (three_at l (p / 8) / 2 ^ (p % 8) % 0x8000) i ≡ bit_at l (p + i)
   unfolding bit_at
   window_bit p i h =
       let byte : p / 8 + (p % 8 + i) / 8 ≡ (p + i) / 8 = omega arith in
       let place : (p % 8 + i) % 8 ≡ (p + i) % 8 = omega arith in
-      high_bit (p % 8) (three_at l (p / 8)) i
+      low_bit 15 (three_at l (p / 8) / 2 ^ (p % 8)) i h
+      ∙ high_bit (p % 8) (three_at l (p / 8)) i
       ∙ three_bit (p / 8) (p % 8 + i) (omega arith)
       ∙ rw (byte, place)
 
-  -- sixteen bits from a place
-  pub window : (p : ℕ) → reversed 16 (three_at l (p / 8) / 2 ^ (p % 8)) ≡ word (bit_at l) p 16
-  window p = reversed-word 16 _ (bit_at l) p (window_bit p)
+  -- fifteen bits from a place
+  pub window : (p : ℕ) → reversed 16 (three_at l (p / 8) / 2 ^ (p % 8) % 0x8000 * 2) ≡ word (bit_at l) p 15
+  window p = reversed_doubled 15 _ ∙ reversed-word 15 _ (bit_at l) p (window_bit p)

@@ -1,6 +1,6 @@
 -- A dynamic context's histogram: the list of frequencies (01: weights), the escape symbol's first, then those of the values upward
 -- (10.4.3, 10.4.9). What follows this file knows the list only through these definitions.
-use Rattle.std.specs.Prelude.{ℕ, suc, ◌+◌, ◌-◌, ◌/◌, ◌%◌, ◌^◌, ◌≤◌, Bool, true, false, cond, ◌&&◌, List, [], ◌∷◌, map, length, take, replicate, ◌==◌, nat_le, nat_lt, slice_index, slice_set}
+use Rattle.std.specs.Prelude.{ℕ, suc, ◌+◌, ◌-◌, ◌/◌, ◌≤◌, Bool, true, false, cond, ◌&&◌, List, [], ◌∷◌, map, length, take, replicate, ◌==◌, nat_le, nat_lt, slice_index, slice_set}
 use Rattle.coder.specs.Interval.{Span}
 
 abbrev pub Histogram : Type 0
@@ -56,28 +56,6 @@ thinned h = cond (nat_le largest_total (sum h)) (add_at (map halve h) 0) h
 -- 10.4.9: a symbol's frequency rises
 unfoldable pub raised : Histogram → ℕ → Histogram
 raised h k = add_at (thinned h) k
-
--- a histogram, and the total that a caller keeps beside it
-pub record Tally : Type 0 where
-  pub histogram : Histogram
-  pub total : ℕ
-
-abbrev pub tally_given : Histogram → ℕ → Tally
-tally_given h total = record { histogram = h; total = total }
-
--- 10.4.9 for any frequencies and any total of 32 bits: the frequency at k is one higher
-abbrev pub add_at32 : Histogram → ℕ → Histogram
-add_at32 h k = slice_set h k ((slice_index h k + 1) % 2 ^ 32)
-
--- a total of 0x1FFF or more has every frequency halved and escape then raised by 1, and is their sum then
-unfoldable pub thinned_by : ℕ → Histogram → Tally
-thinned_by total h =
-    let halved = add_at32 (map halve h) 0 in
-    cond (nat_le largest_total total) (tally_given halved (sum halved % 2 ^ 32)) (tally_given h total)
-
--- then the symbol's frequency and the total rise; a symbol past the end raises the total only
-unfoldable pub raised_by : ℕ → Histogram → ℕ → Tally
-raised_by total h k = let t = thinned_by total h in tally_given (add_at32 t.histogram k) ((t.total + 1) % 2 ^ 32)
 
 -- "escape has weight 1 or more and the total is at most 0x1FFF"
 unfoldable pub histogram_formed : Histogram → Bool

@@ -45,7 +45,7 @@ pub(crate) fn bit_at(bytes: &[u8], at: u64) -> u32
 
 // The number that three bytes from a place make, the first of them the lowest; one test where they are all there.
 fn three_at(bytes: &[u8], i: u64) -> u32
-    requires { i < 2 ^ 61 }
+    requires { i < 2 ^ 32 }
     ensures value { result ≡ three_at bytes.now i }
     ensures upper_bound { result < 0x1000000 }
 {
@@ -56,19 +56,13 @@ fn three_at(bytes: &[u8], i: u64) -> u32
     byte_at(bytes, i) + 0x100 * byte_at(bytes, i + 1) + 0x10000 * byte_at(bytes, i + 2)
 }
 
-// The number that sixteen bits from a place make, the first of them the highest; bits past the end are 0.
-pub fn bits_at(bytes: &[u8], from: u64) -> u32
-    ensures { result ≡ word (bit_at bytes.now) from 16 }
-{
-    let three = three_at(bytes, from / 8);
-    reversed_word(three / power((from % 8) as u32))
-}
-
-// The number that fifteen bits from a place make.
+// The number that fifteen bits from a place make, the first of them the highest.
 pub(crate) fn word_at(bytes: &[u8], from: u64) -> u32
+    requires { from < 2 ^ 34 }
     ensures { result ≡ word (bit_at bytes.now) from 15 }
 {
-    bits_at(bytes, from) / 2
+    let three = three_at(bytes, from / 8);
+    reversed_word(three / power((from % 8) as u32) % 0x8000 * 2)
 }
 
 // The byte with bits from a place on, and those above them 0.

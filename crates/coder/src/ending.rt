@@ -87,7 +87,8 @@ impl Writer {
         if fault != 0 {
             return Ended::Refused(fault, self);
         }
-        if self.compressed {
+        let compressed = self.compressed;
+        if compressed {
             return self.end_zero(buf);
         }
         let start = self.coder;

@@ -1,6 +1,6 @@
 // The frequencies of a dynamic context: the escape symbol's first, then those of the values 0 to 255 (10.4.3, 10.4.9).
 ghost use Rattle.std.specs.Prelude.{◌≡◌, ◌+◌, ◌*◌, ◌%◌, ◌^◌, ◌<◌, ◌≤◌, map, length, take};
-ghost use Rattle.coder.specs.Histogram.{fresh_histogram, sum, symbol_at, halve, add_at32, thinned_by, raised_by, tally_given, span_of, histogram_formed, WellFormedHistogram, symbols, values};
+ghost use Rattle.coder.specs.Histogram.{fresh_histogram, sum, symbol_at, halve, thinned, raised, span_of, histogram_formed, WellFormedHistogram, symbols, values};
 ghost use Rattle.coder.specs.Values.{symbol_after};
 
 use crate::interval::{Coder, Span};
@@ -50,12 +50,13 @@ struct Sums {
 
 // The bits and the sum in one pass over narrow numbers.
 fn sums_of(h: &[u32]) -> Sums
-    ensures { (result.low ≡ sum h.now % 2 ^ 32) × (sum h.now ≤ length h.now * result.bits) }
+    requires { length h.now ≡ symbols }
+    ensures { (result.low ≡ sum h.now % 2 ^ 32) × (sum h.now ≤ symbols * result.bits) }
 {
     let mut bits: u32 = 0;
     let mut low: u32 = 0;
     let mut i = 0;
-    while i < h.len() {
+    while i < SYMBOLS {
         let frequency = h[i];
         bits = bits | frequency;
         low = wrapping_add_u32(low, frequency);
@@ -108,18 +109,19 @@ pub(crate) fn span_of(h: &[u32], total: u64, symbol: usize) -> Span
 
 // A symbol, and the sum of the frequencies before it.
 #[derive(Clone, Copy)]
-pub struct Symbol {
+pub(crate) struct Symbol {
     pub index: usize,
     pub start: u64,
 }
 
-// The symbol whose part of the total holds a place; the count of the frequencies where none does.
-pub fn symbol_at(h: &[u32], place: u64) -> Symbol
+// The symbol whose part of the total holds a place.
+pub(crate) fn symbol_at(h: &[u32], place: u64) -> Symbol
+    requires { length h.now ≡ symbols }
     ensures { (result.index ≡ symbol_at h.now place) × (result.start ≡ sum (take result.index h.now)) × (result.start ≤ place) }
 {
     let mut rest = place;
     let mut index = 0;
-    while index < h.len() {
+    while index < SYMBOLS {
         let frequency = wide(h[index]);
         if rest < frequency {
             return Symbol {
@@ -152,44 +154,36 @@ pub(crate) fn span_at(h: &[u32], total: u64, symbol: Symbol) -> Span
 
 // Halves every frequency, rounding down.
 fn halve_all(h: &mut [u32])
+    requires { length h.old ≡ symbols }
     ensures { h.new ≡ map halve h.old }
 {
     let mut i = 0;
-    while i < h.len() {
+    while i < SYMBOLS {
         h[i] = h[i] / 2;
         i += 1;
     }
 }
 
-// A symbol's frequency rises by 1, in 32 bits; past the end there is none.
-fn raise_at(h: &mut [u32], symbol: usize)
-    ensures { h.new ≡ add_at32 h.old symbol }
+// A full histogram is halved, and its escape frequency raised.
+fn thin(h: &mut [u32], total: u64)
+    requires h_len { (length h.old ≡ symbols) × (total ≡ sum h.old) }
+    requires well_formed_histogram { WellFormedHistogram h.old }
+    ensures { h.new ≡ thinned h.old }
 {
-    if symbol < h.len() {
-        h[symbol] = wrapping_add_u32(h[symbol], 1);
+    if total >= Coder::LARGEST_TOTAL as u64 {
+        halve_all(h);
+        h[0] = h[0] + 1;
     }
 }
 
-// A full histogram is halved, and its escape frequency raised; the total after that.
-fn thin(h: &mut [u32], total: u32) -> u32
-    ensures { tally_given h.new result ≡ thinned_by total h.old }
+// A symbol's frequency rises.
+fn raise(h: &mut [u32], total: u64, symbol: usize)
+    requires h_len { (length h.old ≡ symbols) × (symbol < symbols) × (total ≡ sum h.old) }
+    requires well_formed_histogram { WellFormedHistogram h.old }
+    ensures { h.new ≡ raised h.old symbol }
 {
-    if total < Coder::LARGEST_TOTAL {
-        return total;
-    }
-    halve_all(&mut *h);
-    raise_at(&mut *h, 0);
-    let sums = sums_of(&*h);
-    sums.low
-}
-
-// A symbol's frequency rises where the caller keeps the total: the total after that.
-pub fn raise_symbol(h: &mut [u32], total: u32, symbol: usize) -> u32
-    ensures { tally_given h.new result ≡ raised_by total h.old symbol }
-{
-    let thinned = thin(&mut *h, total);
-    raise_at(h, symbol);
-    wrapping_add_u32(thinned, 1)
+    thin(h, total);
+    h[symbol] = h[symbol] + 1;
 }
 
 // The frequencies rise after a symbol that was read or written: after an escape, also that of the value which followed.
@@ -198,8 +192,9 @@ pub(crate) fn raise_after(h: &mut [u32], total: u64, symbol: usize, value: u32)
     requires well_formed_histogram { WellFormedHistogram h.old × (value < values) }
     ensures { h.new ≡ symbol_after h.old symbol value }
 {
-    let next = raise_symbol(&mut *h, total as u32, symbol);
+    raise(h, total, symbol);
     if symbol == 0 {
-        raise_symbol(h, next, value as usize + 1);
+        let next = total_of(&*h);
+        raise(h, next, value as usize + 1);
     }
 }

@@ -38,21 +38,22 @@ pub(crate) fn reversed(table: &[u8], b: u32) -> u32
     table[b as usize] as u32
 }
 
-// The low byte with its bits in reverse order, by arithmetic, where a table would be built for each: pairs of bits, of pairs and of halves
-// change places.
-pub fn reversed_byte(v: u32) -> u32
+// A byte with its bits in reverse order, by arithmetic, where a table would be built for each: pairs of bits, of pairs and of halves change
+// places.
+pub(crate) fn reversed_byte(v: u32) -> u32
+    requires { v < 256 }
     ensures { (result ≡ reversed 8 v) × (result < 256) }
 {
-    let byte = v % 256;
-    let pairs = (byte & 0x55) * 2 + (byte / 2 & 0x55);
+    let pairs = (v & 0x55) * 2 + (v / 2 & 0x55);
     let fours = (pairs & 0x33) * 4 + (pairs / 4 & 0x33);
     fours % 16 * 16 + fours / 16
 }
 
-// The low sixteen bits in reverse order.
+// Sixteen bits in reverse order.
 pub(crate) fn reversed_word(v: u32) -> u32
+    requires { v < 0x10000 }
     ensures value { result ≡ reversed 16 v }
     ensures upper_bound { result < 0x10000 }
 {
-    reversed_byte(v) * 256 + reversed_byte(v / 256)
+    reversed_byte(v % 256) * 256 + reversed_byte(v / 256)
 }

@@ -1,22 +1,23 @@
 -- Pieces of text stored one after the other at the start of a buffer, each in what the one before left. Assumes nothing.
 use mathlib.Core.Path.{◌≡◌, ap, sym, ◌∙◌}
-use mathlib.Core.Bool.{true}
 use mathlib.Core.List.{List, [], ◌++◌, append_assoc, append-nil}
 use Prim.Native.Nat.{ℕ, ◌+◌, ◌-◌, ◌<◌, ◌≤◌}
 use native.Mathlib.Omega.{arith}
 use borrow.Author.Tests.{lt-ltb, le-ltb}
 use borrow.Rule.Slice.PartMut.{put_mid}
-use lib.ListN.{length, take, drop, length-append, length-drop, take-append-drop}
-use lib.Seq.{sets, take_all, take_at, drop_at, drop-drop, drop-length, length-take-le}
+use lib.Dec.{ltb}
+use lib.ListN.{length, take, drop, length-append, length-drop}
+use lib.Seq.{sets, take_all, take_at, drop_at, drop-drop, drop-length}
 use Rattle.fields.specs.Numbers.{no_room, over_limit}
-use Rattle.fields.specs.Judged.{Judged, done, refused, buffer_after}
+use Rattle.fields.specs.Judged.{done, refused, buffer_after}
 use Rattle.fields.specs.declared.numbers.Refusal.{Refusal}
-use Rattle.text.specs.Digits.{digits_of, decimal_width, decimal_field}
+use Rattle.fields.proofs.Judging.{passed}
+use Rattle.text.specs.Digits.{decimal_field}
 use Rattle.text.proofs.Stores.{stores_on}
 use Rattle.text.proofs.Widths.{decimal_length}
 use Rattle.blocks.specs.Told.{tab, line_feed}
-use Rattle.blocks.specs.File.{file_lines, lines_of, lines_within}
-use Rattle.blocks.proofs.Files.{at_start, byte_count, within_done}
+use Rattle.blocks.specs.File.{file_lines, lines_of, lines_in}
+use Rattle.blocks.proofs.Files.{at_start, byte_count, lines_fit}
 use Rattle.blocks.specs.declared.tell.Told.{Told}
 use Rattle.listing.specs.Listing.{first_line, end_word, end_line, file_within, listing_with, listing_of, written}
 
@@ -71,11 +72,6 @@ end_length number blocks = simp length-append (omega arith)
 pub end_short : (number blocks : ℕ) → length (end_line number blocks) ≤ 46
 end_short number blocks = omega (arith, end_length number blocks, decimal_length number tab, decimal_length blocks line_feed)
 
--- the end line of a file that is not refused, up to the number of blocks
-pub end_of_done : (blocks : ℕ) → length (end_line 0 blocks) ≡ 6 + length (decimal_field blocks line_feed)
-unfolding decimal_field digits_of decimal_width
-end_of_done blocks = end_length 0 blocks ∙ omega arith
-
 done_listing : (s : List ℕ) (told : Told) → lines_of s ≡ done told → listing_with (lines_of s) (file_lines s) ≡ first_line ++ (file_lines s ++ end_line 0 told.blocks)
 unfolding listing_with
 done_listing s told e = rw e
@@ -105,63 +101,30 @@ module _ (e : Refusal) (t₀ t₁ p : List ℕ) (r size : ℕ) where
       let all = tail_piece first_line (drop 9 t₀) t₁ r first l end p room q ∙ two_pieces t₀ first_line end in
       answer_written (first_line ++ end) t₀ _ size (n ∙ sym (length-append first_line end)) h all
 
--- the room behind the first line
-abbrev pub behind_first : List ℕ → List ℕ
-behind_first t = take (length t - 9) (drop 9 t)
-
-first_split : (t : List ℕ) → t ≡ take 9 t ++ drop 9 t
-first_split t = sym (take-append-drop 9 t)
-
-first_size : (t : List ℕ) → 9 ≤ length t → 9 ≡ length (take 9 t)
-first_size t h = sym (length-take-le 9 t h)
-
-pub first_behind : (t : List ℕ) → 9 ≤ length t → behind_first t ≡ drop 9 t
-first_behind t h = tail_part (take 9 t) (drop 9 t) t 9 (first_split t) (first_size t h)
-
--- lines that were taken there have room with both other lines
-pub done_room : (s : List ℕ) (told : Told) (t : List ℕ) → lines_within s 6 true (behind_first t) ≡ done told → 9 ≤ length t
-    → 9 + told.bytes + length (end_line 0 told.blocks) ≤ length t
-done_room s told t j h =
-    let within = within_done s (behind_first t) 6 true told j in
-    omega (arith, within.1, ap length (first_behind t h), length-drop 9 t, end_of_done told.blocks)
-
--- lines that were refused leave the buffer as it was
-pub first-kept : (s : List ℕ) (n p : ℕ) (t part : List ℕ) → 9 ≤ length t → lines_within s 6 true (behind_first t) ≡ refused n p
-    → part ≡ buffer_after (lines_within s 6 true (behind_first t)) (file_lines s) (behind_first t) → put_mid 9 (length t - 9) t part ≡ t
-first-kept s n p t part h r q =
-    tail_stored (take 9 t) (drop 9 t) t 9 (first_split t) (first_size t h) [] part (q ∙ rw r (first_behind t h))
-    ∙ ap (λ (x : List ℕ). x ++ drop 9 t) (append-nil (take 9 t)) ∙ sym (first_split t)
-
--- a good file's listing: its lines stored there, and then the first and the end line
-module _ (s : List ℕ) (told : Told) (t₀ t₁ t₂ p₁ p₂ : List ℕ) (size : ℕ) where
-  pub done_stored : lines_within s 6 true (behind_first t₀) ≡ done told → 9 ≤ length t₀
-      → p₁ ≡ buffer_after (lines_within s 6 true (behind_first t₀)) (file_lines s) (behind_first t₀) → t₁ ≡ put_mid 9 (length t₀ - 9) t₀ p₁ → t₂ ≡ sets t₁ 0 first_line
-      → p₂ ≡ sets (take (length t₂ - (9 + told.bytes)) (drop (9 + told.bytes) t₂)) 0 (end_line 0 told.blocks)
-      → size ≡ 9 + told.bytes + length (end_line 0 told.blocks)
+-- a good file's listing, its three pieces stored
+module _ (s : List ℕ) (told : Told) (t₀ t₁ t₂ p₁ p₂ : List ℕ) (r size : ℕ) where
+  pub done_stored : lines_of s ≡ done told → t₁ ≡ sets t₀ 0 first_line → r ≡ 9
+      → p₁ ≡ buffer_after (lines_in s (take (length t₁ - r) (drop r t₁))) (file_lines s) (take (length t₁ - r) (drop r t₁)) → t₂ ≡ put_mid r (length t₁ - r) t₁ p₁
+      → p₂ ≡ sets (take (length t₂ - (r + told.bytes)) (drop (r + told.bytes) t₂)) 0 (end_line 0 told.blocks)
+      → size ≡ 9 + length (end_line 0 told.blocks) + told.bytes → size ≤ length t₀
       → (done size ≡ written (listing_with (lines_of s) (file_lines s)) t₀)
-      × (put_mid (9 + told.bytes) (length t₂ - (9 + told.bytes)) t₂ p₂ ≡ buffer_after (written (listing_with (lines_of s) (file_lines s)) t₀) (listing_with (lines_of s) (file_lines s)) t₀)
-  done_stored j f q e g q' n =
+      × (put_mid (r + told.bytes) (length t₂ - (r + told.bytes)) t₂ p₂ ≡ buffer_after (written (listing_with (lines_of s) (file_lines s)) t₀) (listing_with (lines_of s) (file_lines s)) t₀)
+  done_stored j f l q e q' n h =
       let end = end_line 0 told.blocks in
       let lines = file_lines s in
       let behind = drop 9 t₀ in
-      let more = drop (length lines) behind in
-      let split = first_split t₀ in
-      let nine = first_size t₀ f in
-      let part = first_behind t₀ f in
-      let within = within_done s (behind_first t₀) 6 true told j in
-      let bytes : length lines ≡ told.bytes = byte_count s told within.0 in
+      let bytes : length lines ≡ told.bytes = byte_count s t₀ told j in
+      let first : t₁ ≡ first_line ++ behind = f ∙ at_start first_line t₀ (omega arith) in
       let rest : length behind ≡ length t₀ - 9 = length-drop 9 t₀ in
-      let fit = done_room s told t₀ j f in
-      let placed : p₁ ≡ lines ++ more = q ∙ rw j (ap (λ (x : List ℕ). lines ++ drop (length lines) x) part) in
-      let stored : t₁ ≡ take 9 t₀ ++ (lines ++ more) = e ∙ tail_stored (take 9 t₀) behind t₀ 9 split nine lines p₁ placed ∙ append_assoc (take 9 t₀) lines more in
-      let tail : drop 9 t₁ ≡ lines ++ more = rw stored (drop_at (take 9 t₀) (lines ++ more) 9 (sym nine)) in
-      let whole : length t₁ ≡ 9 + (length lines + length more) = ap length stored ∙ length-append (take 9 t₀) (lines ++ more) ∙ rw (← nine, length-append lines more) in
-      let second : t₂ ≡ (first_line ++ lines) ++ more = g ∙ at_start first_line t₁ (omega arith) ∙ ap (λ (x : List ℕ). first_line ++ x) tail ∙ sym (append_assoc first_line lines more) in
-      let room : length end ≤ length more = rw (length-drop (length lines) behind) (omega arith) in
-      let at : 9 + told.bytes ≡ length (first_line ++ lines) = rw (length-append first_line lines) (omega arith) in
-      let third = tail_piece (first_line ++ lines) more t₂ (9 + told.bytes) second at end p₂ room q' ∙ three_pieces t₀ first_line lines end in
+      let part = tail_part first_line behind t₁ r first l in
+      let taken : lines_in s behind ≡ done told = lines_fit s behind told j (omega arith) in
+      let placed : p₁ ≡ lines ++ drop (length lines) behind = q ∙ rw (part, taken) in
+      let second : t₂ ≡ (first_line ++ lines) ++ drop (length lines) behind = e ∙ tail_stored first_line behind t₁ r first l lines p₁ placed in
+      let room : length end ≤ length (drop (length lines) behind) = rw (length-drop (length lines) behind) (omega arith) in
+      let at : r + told.bytes ≡ length (first_line ++ lines) = rw (length-append first_line lines) (omega arith) in
+      let third = tail_piece (first_line ++ lines) (drop (length lines) behind) t₂ (r + told.bytes) second at end p₂ room q' ∙ three_pieces t₀ first_line lines end in
       let length-all : length (first_line ++ (lines ++ end)) ≡ 9 + (length lines + length end) = length-append first_line (lines ++ end) ∙ ap (λ (k : ℕ). 9 + k) (length-append lines end) in
-      rw (done_listing s told within.0) (answer_written (first_line ++ (lines ++ end)) t₀ _ size (omega arith) (omega arith) third)
+      rw (done_listing s told j) (answer_written (first_line ++ (lines ++ end)) t₀ _ size (omega arith) h third)
 
 -- a listing that the buffer can't hold
 pub refused_short : (e : Refusal) (t : List ℕ) → length t < 9 + length (end_line e.number 0)
@@ -175,29 +138,21 @@ pub done_short : (s : List ℕ) (told : Told) (t : List ℕ) → lines_of s ≡ 
     × (t ≡ buffer_after (written (listing_with (lines_of s) (file_lines s)) t) (listing_with (lines_of s) (file_lines s)) t)
 done_short s told t j h =
     let end = end_line 0 told.blocks in
-    let bytes : length (file_lines s) ≡ told.bytes = byte_count s told j in
+    let bytes : length (file_lines s) ≡ told.bytes = byte_count s t told j in
     let n : length (first_line ++ (file_lines s ++ end)) ≡ 9 + (length (file_lines s) + length end)
     = length-append first_line (file_lines s ++ end) ∙ ap (λ (k : ℕ). 9 + k) (length-append (file_lines s) end) in
     rw (done_listing s told j) (answer_short (first_line ++ (file_lines s ++ end)) t (omega arith))
 
--- every listing has a first line
-pub first_short : (j : Judged Told) (lines t : List ℕ) → length t < 9
-    → (refused no_room 0 ≡ written (listing_with j lines) t) × (t ≡ buffer_after (written (listing_with j lines) t) (listing_with j lines) t)
-unfolding listing_with
-first_short (done told) lines t h =
-    answer_short (first_line ++ (lines ++ end_line 0 told.blocks)) t (omega (arith, length-append first_line (lines ++ end_line 0 told.blocks)))
-first_short (refused n p) lines t h = answer_short (first_line ++ end_line n 0) t (omega (arith, length-append first_line (end_line n 0)))
+-- a file judged within a limit, and its listing
+pub within_limit : (limit : ℕ) (s : List ℕ) (told : Told) → file_within limit s ≡ done told → lines_of s ≡ done told
+unfolding file_within
+within_limit limit s told e = (passed (ltb limit (length s)) over_limit 0 (lines_of s) told e).1
 
--- the listing of a refused file, of one above the limit, and of one within it
-pub listing_refused : (s : List ℕ) (e : Refusal) → lines_of s ≡ refused e.number e.place
-    → listing_with (lines_of s) (file_lines s) ≡ listing_with (refused e.number e.place) []
-unfolding listing_with
-listing_refused s e q = rw q
+pub listing_refused : (limit : ℕ) (s : List ℕ) (e : Refusal) → file_within limit s ≡ refused e.number e.place
+    → listing_of limit s ≡ listing_with (refused e.number e.place) []
+unfolding listing_of listing_with
+listing_refused limit s e q = rw q
 
-pub listing_above : (limit : ℕ) (s : List ℕ) → limit < length s → listing_of limit s ≡ listing_with (refused over_limit 0) []
-unfolding listing_of file_within listing_with
-listing_above limit s h = rw (lt-ltb limit (length s) h)
-
-pub listing_within : (limit : ℕ) (s : List ℕ) → length s ≤ limit → listing_of limit s ≡ listing_with (lines_of s) (file_lines s)
-unfolding listing_of file_within
-listing_within limit s h = rw (le-ltb limit (length s) h)
+pub listing_done : (limit : ℕ) (s : List ℕ) (told : Told) → file_within limit s ≡ done told → listing_of limit s ≡ listing_with (lines_of s) (file_lines s)
+unfolding listing_of
+listing_done limit s told q = rw (q, within_limit limit s told q)

@@ -4,11 +4,11 @@
 ghost use Rattle.std.specs.Prelude.{◌≡◌, [], length};
 ghost use Rattle.std.proofs.lemmas.List.Edits.{sets};
 ghost use Rattle.fields.specs.Numbers.{no_room};
-ghost use Rattle.fields.specs.Judged.{refused};
-ghost use Rattle.listing.specs.Listing.{first_line, end_line, listing_with, listing_of, written, text_after, listing_given};
-ghost use Rattle.listing.specs.Inside.{lines_behind, whole_listing};
+ghost use Rattle.fields.specs.Judged.{done, refused};
+ghost use Rattle.blocks.specs.File.{file_lines, lines_given, lines_of};
+ghost use Rattle.listing.specs.Listing.{first_line, end_line, file_within, listing_with, listing_of, written, text_after, listing_given};
 
-use blocks::file::{Lines, lines_size, put_lines_within};
+use blocks::file::{Lines, lines_size, put_lines};
 use fields::numbers::{NO_ROOM, OVER_LIMIT, Refusal};
 use text::line::{put_decimal, put_word};
 
@@ -21,9 +21,6 @@ pub enum Listing {
 
 // Bytes of the first line.
 const FIRST_SIZE: usize = 9;
-
-// Where the number of blocks stands in the end line of a file that is not refused.
-const COUNT_AT: usize = 6;
 
 // Stores the first line at the start of `text` as far as there is room, and answers its length.
 fn put_first(text: &mut [u8]) -> usize
@@ -60,6 +57,19 @@ fn no_room() -> Listing
     })
 }
 
+// The blocks of a file of at most `limit` bytes.
+fn lines_within(file: &[u8], limit: usize) -> Lines
+    ensures { lines_given result ≡ file_within limit file.now }
+{
+    if limit < file.len() {
+        return Lines::Refused(Refusal {
+            number: OVER_LIMIT,
+            place: 0,
+        });
+    }
+    lines_size(file)
+}
+
 // The listing of a refused file: its first and last line, count 0.
 fn put_refused(text: &mut [u8], e: Refusal) -> Listing
     ensures result_value { listing_given result ≡ written (listing_with (refused e.number e.place) []) text.old }
@@ -75,38 +85,25 @@ fn put_refused(text: &mut [u8], e: Refusal) -> Listing
     Listing::Written { bytes: size }
 }
 
-// The listing of a file whose lines were refused with `e`: of a refused file, or none where they have no room.
-fn put_unlined(file: &[u8], text: &mut [u8], e: Refusal) -> Listing
-    requires { lines_behind file.now text.old ≡ refused e.number e.place }
-    ensures result_value { listing_given result ≡ written (whole_listing file.now) text.old }
-    ensures text_after { text.new ≡ text_after (whole_listing file.now) text.old }
+// The listing of a file whose lines take `bytes` bytes.
+fn put_done(file: &[u8], text: &mut [u8], blocks: usize, bytes: usize) -> Listing
+    requires { lines_of file.now ≡ done (record { blocks = blocks; bytes = bytes }) }
+    ensures result_value { listing_given result ≡ written (listing_with (lines_of file.now) (file_lines file.now)) text.old }
+    ensures text_after { text.new ≡ text_after (listing_with (lines_of file.now) (file_lines file.now)) text.old }
 {
-    if e.number != NO_ROOM {
-        return put_refused(text, e);
-    }
-    match lines_size(file) {
-        Lines::Refused(r) => put_refused(text, r),
-        Lines::Done { .. } => no_room(),
-    }
-}
-
-// The listing of a file: the lines are put first, where all of it has room, and then the first and the end line around them.
-fn put_listing(file: &[u8], text: &mut [u8]) -> Listing
-    ensures result_value { listing_given result ≡ written (whole_listing file.now) text.old }
-    ensures text_after { text.new ≡ text_after (whole_listing file.now) text.old }
-{
-    let from = FIRST_SIZE;
-    if text.len() < from {
+    let lines = FIRST_SIZE + end_size(0, blocks);
+    if text.len() < lines {
         return no_room();
     }
-    match put_lines_within(file, &mut text[from..], COUNT_AT, true) {
-        Lines::Refused(e) => put_unlined(file, text, e),
-        Lines::Done { blocks, bytes } => {
-            put_first(text);
-            let end = from + bytes;
-            let size = put_end(&mut text[end..], 0, blocks);
-            Listing::Written { bytes: end + size }
-        }
+    if text.len() - lines < bytes {
+        return no_room();
+    }
+    let from = put_first(text);
+    let end = from + bytes;
+    put_lines(file, &mut text[from..]);
+    put_end(&mut text[end..], 0, blocks);
+    Listing::Written {
+        bytes: lines + bytes,
     }
 }
 
@@ -116,14 +113,8 @@ pub fn list_file(file: &[u8], limit: usize, text: &mut [u8]) -> Listing
     ensures result_value { listing_given result ≡ written (listing_of limit file.now) text.old }
     ensures text_after { text.new ≡ text_after (listing_of limit file.now) text.old }
 {
-    if limit < file.len() {
-        return put_refused(
-            text,
-            Refusal {
-                number: OVER_LIMIT,
-                place: 0,
-            },
-        );
+    match lines_within(file, limit) {
+        Lines::Refused(e) => put_refused(text, e),
+        Lines::Done { blocks, bytes } => put_done(file, text, blocks, bytes),
     }
-    put_listing(file, text)
 }

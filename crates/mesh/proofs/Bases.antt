@@ -1,9 +1,9 @@
 -- Pools and faces of a continuation. A run of fields that are not judged is cut only by the end of the bytes.
 use Prim.Native.Nat.{ℕ, zero, suc, ◌+◌, ◌-◌, ◌*◌, ◌/◌, ◌≤◌, ◌<◌}
 use mathlib.Core.Path.{◌≡◌, ◌∙◌, ap, refl, sym}
-use mathlib.Core.Bool.{true, false}
+use mathlib.Core.Bool.{true, false, not}
 use mathlib.Core.Logic.{⊎_elim}
-use mathlib.Core.List.{List, [], ◌∷◌}
+use mathlib.Core.List.{List, [], ◌∷◌, ◌++◌}
 use native.Mathlib.Decide.{dec_lt}
 use native.Mathlib.Nat.{eq-or-lt_of_le}
 use native.Mathlib.Numerals.{add-one}
@@ -11,19 +11,21 @@ use native.Mathlib.Omega.{arith}
 use borrow.Author.Tests.{le-ltb, lt-ltb}
 use mir.Syntax.{w8}
 use mir.Val.{Fits}
-use lib.ListN.{drop, get_or, length, replicate, take}
+use lib.ListN.{drop, get_or, length, length-replicate, replicate, take}
 use lib.Seq.{sets}
 use Rattle.fields.specs.Field.{field_at, little_endian}
 use Rattle.fields.specs.Judged.{Judged, done, refused, on_done}
 use Rattle.fields.specs.Limits.{any_number, largest_file}
-use Rattle.fields.specs.Numbers.{no_room, over_limit, truncated}
+use Rattle.fields.specs.Name.{name_at, name_part, same}
+use Rattle.fields.specs.Numbers.{bad_name, no_room, over_limit, truncated}
 use Rattle.fields.specs.declared.numbers.Refusal.{Refusal}
-use Rattle.fields.proofs.Judging.{not_done, refusal_before, value_before}
-use Rattle.mesh.specs.Run.{ruled_at, run_at, unjudged}
-use Rattle.mesh.specs.Base.{InPart, Mesh, Tables, answered, base_of, has_room, head_of, lengths_of, mesh_of, pool_words, pools_at, read, refused_in, table_of, tables_after, words_in}
+use Rattle.fields.proofs.Judging.{name_within, not_done, passed, value_before}
+use Rattle.mesh.specs.Run.{Ended, ruled_at, run_at, unjudged, values_of}
+use Rattle.mesh.specs.Corners.{face_words}
+use Rattle.mesh.specs.Base.{InPart, Mesh, Tables, answered, base_of, base_rules, has_room, head_of, lengths_of, mesh_of, pool_words, pools_at, read, refused_in, table_of, tables_after, words_in}
 use Rattle.mesh.specs.Declaration.{declaration_of, mesh_name}
-use Rattle.mesh.specs.Faces.{faces_of, placed_at}
-use Rattle.mesh.specs.Inside.{FacesDecoded, FacesFilled, JudgedFits, base_faces, contents_at, counts_from, ended_given, faces_after, faces_given, faces_in, faces_judged, faces_start, head_given, in_continuation, judged_given, mesh_from, next_given, pool_at, pool_numbers, stored_faces, values_from, words_before, words_or}
+use Rattle.mesh.specs.Faces.{faces_of}
+use Rattle.mesh.specs.Inside.{ContentsFit, FacesFit, JudgedFits, base_faces, contents_at, counts_from, ended_given, faces_given, faces_in, faces_start, head_given, in_continuation, judged_given, mesh_from, next_given, pool_at, pool_numbers, rules_from, stored_faces, stored_run, words_before, words_or}
 use Rattle.mesh.specs.declared.declaration.Declaration.{Declaration}
 use Rattle.mesh.specs.declared.base.Part.{Part}
 use Rattle.mesh.specs.declared.base.Part as part
@@ -31,10 +33,11 @@ use Rattle.mesh.specs.declared.faces.Faces as faces
 use Rattle.mesh.specs.declared.head.Head.{Head}
 use Rattle.mesh.specs.declared.run.Next.{Next}
 use Rattle.mesh.specs.declared.run.Next.TheVariants.{At, Refused}
-use Rattle.mesh.proofs.Chains.{stored_cleared, to_end}
-use Rattle.mesh.proofs.FaceRuns.{faces_failed, faces_length, faces_told}
-use Rattle.mesh.proofs.Rooms.{cleared}
-use Rattle.mesh.proofs.Runs.{values_length}
+use Rattle.mesh.proofs.Chains.{ended_value, stored_cleared, to_end}
+use Rattle.mesh.proofs.FaceRuns.{faces_length, faces_stored}
+use Rattle.mesh.proofs.Heads.{rules_length}
+use Rattle.mesh.proofs.Rooms.{room_at}
+use Rattle.mesh.proofs.Runs.{run_length, run_within, unjudged_rules}
 
 -- a list of bytes
 abbrev pub Bytes : List ℕ → Type 0
@@ -57,13 +60,13 @@ module _ (s : List ℕ) (b : Bytes s) where
   free_cut at h = rw (lt-ltb _ _ h)
 
   -- a run within the bytes
-  run_whole : (n at : ℕ) → at + 4 * n ≤ length s → run_at (replicate n unjudged) s at ≡ done (values_from s at n)
-  unfolding run_at values_from
+  pub run_whole : (n at : ℕ) → at + 4 * n ≤ length s → run_at (replicate n unjudged) s at ≡ done (words_or (run_at (replicate n unjudged) s at))
+  unfolding run_at
   run_whole zero at h = refl
   run_whole (suc n) at h = rw (free_field at (omega arith), run_whole n (at + 4) (omega arith))
 
   -- a run that passes their end
-  run_cut : (n at : ℕ) → at ≤ length s → length s < at + 4 * n → run_at (replicate n unjudged) s at ≡ refused truncated (at + (length s - at) / 4 * 4)
+  pub run_cut : (n at : ℕ) → at ≤ length s → length s < at + 4 * n → run_at (replicate n unjudged) s at ≡ refused truncated (at + (length s - at) / 4 * 4)
   unfolding run_at
   run_cut zero at h l = absurd (omega arith)
   run_cut (suc n) at h l = go (dec_lt (length s) (at + 4)) (run_cut n (at + 4))
@@ -85,7 +88,7 @@ total (w ∷ ws) = w + total ws
 
 pool_lists : List ℕ → List ℕ → ℕ → List (List ℕ)
 pool_lists [] s at = []
-pool_lists (w ∷ ws) s at = values_from s at w ∷ pool_lists ws s (at + 4 * w)
+pool_lists (w ∷ ws) s at = words_or (run_at (replicate w unjudged) s at) ∷ pool_lists ws s (at + 4 * w)
 
 module _ (s : List ℕ) (b : Bytes s) where
   pools_whole : (ws : List ℕ) (at : ℕ) → at + 4 * total ws ≤ length s
@@ -132,12 +135,6 @@ module _ (s : List ℕ) (counts : List ℕ) (at : ℕ) where
 
 -- ---- pools and faces
 
--- faces that are judged, and those that were read
-faces_or : {A : Type 0} (p : ℕ) (j : Judged (List ℕ)) (make : List ℕ → A)
-    → on_done (placed_at p j) (λ words. done (make words)) ≡ on_done (placed_at p j) (λ _. done (make (words_or j)))
-faces_or p (done words) make = refl
-faces_or p (refused n q) make = refl
-
 module _ (s : List ℕ) (declaration : Declaration) (counts : List ℕ) (at : ℕ) (b : Bytes s) where
   pub contents_cut : at ≤ length s → length s < faces_start at counts → contents_at s declaration counts at ≡ refused truncated (at + (length s - at) / 4 * 4)
   unfolding contents_at
@@ -148,16 +145,19 @@ module _ (s : List ℕ) (declaration : Declaration) (counts : List ℕ) (at : �
     pools =
         pools_whole s b (pool_words counts) at (omega (arith, total_words counts)) ∙ rw (total_words counts, same_lists s counts at)
 
-    pub contents_faces : contents_at s declaration counts at ≡ faces_judged s declaration counts at
-    unfolding contents_at faces_judged mesh_from base_faces
-    contents_faces =
-        rw pools
-        (faces_or (faces_start at counts) (faces_in s declaration counts at) (λ (words : List ℕ). record {
-          declaration = declaration;
-          counts = counts;
-          pools = numbers s counts at;
-          faces = words;
-        }))
+    pub contents_refused : (n p : ℕ) → faces_in s declaration counts at ≡ refused n p → contents_at s declaration counts at ≡ refused n (faces_start at counts)
+    unfolding contents_at
+    contents_refused n p e = rw (pools, e)
+
+    pub contents_done : (words : List ℕ) → faces_in s declaration counts at ≡ done words → contents_at s declaration counts at ≡ done (mesh_from s declaration counts at)
+    unfolding contents_at mesh_from base_faces
+    contents_done words e = rw (pools, e)
+
+-- faces that were read are those of the mesh
+pub faces_coded : (s : List ℕ) (declaration : Declaration) (counts : List ℕ) (at : ℕ) (words : List ℕ) → faces_in s declaration counts at ≡ done words
+    → faces_in s declaration counts at ≡ done (base_faces s declaration counts at)
+unfolding base_faces
+faces_coded s declaration counts at words e = rw e
 
 -- the faces after w words of pools
 pub faces_there : (s : List ℕ) (declaration : Declaration) (counts : List ℕ) (at w : ℕ) → w ≡ words_before counts 5
@@ -166,84 +166,37 @@ faces_there s declaration counts at w p = rw (to_end s (at + 4 * w), p)
 
 -- ---- tables that are filled
 
--- a pool's words stand within the bytes
+-- a pool's words stand within the bytes, and are not too many
 pub pool_asked : (counts : List ℕ) (at k len w words : ℕ) → w ≡ words_before counts k → words ≡ words_in counts (k + 1) → pool_at at counts (suc k) ≤ len
-    → at + 4 * w + 4 * words ≤ len
+    → len ≤ largest_file → (at + 4 * w + 4 * words ≤ len) × (words < 0x1000000)
 unfolding words_before
-pool_asked counts at k len w words e f h =
+pool_asked counts at k len w words e f h small =
     let g : words ≡ words_in counts (suc k) = f ∙ ap (words_in counts) (add-one k) in
-    rw (e, g) (omega arith)
+    (rw (e, g) (omega arith), rw g (omega arith))
 
-pub pool_filled : (s : List ℕ) (at : ℕ) (counts : List ℕ) (k : ℕ) (table after out : List ℕ) (from words : ℕ)
-    → from ≡ pool_at at counts k → words ≡ words_in counts (suc k) → words ≤ length table
-    → after ≡ sets table 0 (values_from s from words) → out ≡ cleared after words → out ≡ table_of (pool_numbers s at counts k) table
+pub pool_filled : (s : List ℕ) → Bytes s → (at : ℕ) (counts : List ℕ) (k : ℕ) (next : Next) (table after out : List ℕ) (from words end : ℕ)
+    → from ≡ pool_at at counts k → words ≡ words_in counts (suc k) → from + 4 * words ≤ length s → words ≤ length table
+    → ended_given next after ≡ stored_run table 0 end (run_at (rules_from [] 0 words) s from)
+    → out ≡ take words after ++ replicate (length after - words) 0 → out ≡ table_of (pool_numbers s at counts k) table
 unfolding pool_numbers
-pool_filled s at counts k table after out from words p q room e f =
-    rw (← p, ← q) (stored_cleared table after out (values_from s from words) words e (values_length s words from) room f)
+pool_filled s b at counts k next table after out from words end p q within room e f =
+    let whole = run_whole s b words from within in
+    let vs : List ℕ = words_or (run_at (replicate words unjudged) s from) in
+    let g : ended_given next after ≡ done (record { value = sets table 0 vs; next = end })
+    = e ∙ rw (unjudged_rules words 0) (ap (stored_run table 0 end) whole) in
+    let long : length vs ≡ words = run_length _ s from vs whole ∙ length-replicate words unjudged in
+    rw (← p, ← q) (stored_cleared table after out vs words (ended_value next after _ g) long room f)
 
--- what a caller learns of faces that were judged first, or read over zeros
-module _ (declaration : Declaration) (counts d : List ℕ) (r : faces.Faces) (table part after : List ℕ)
-    (e : faces_given r after ≡ stored_faces part 0 (faces_of declaration counts (get_or counts 0 0) d)) where
-  abbrev j : Judged (List ℕ)
-  j = faces_of declaration counts (get_or counts 0 0) d
-
-  -- a refusal, of which the table holds no trace
-  pub decoded_refused : (n : ℕ) → r ≡ faces.TheVariants.Refused n → FacesDecoded declaration counts d (faces.TheVariants.Refused n) table table
-  decoded_refused n f =
-      let g : j ≡ refused n 0 = faces_failed r after part j e f in
-      record { answer = rw g; stored = rw g }
-
-  -- faces, and zeros after them
-  pub decoded_read : r ≡ faces.TheVariants.Read → (whole out : List ℕ) (n : ℕ) → n ≡ words_in counts 0 → n ≤ length table
-      → ((words : List ℕ) → length words ≡ n → j ≡ done words → whole ≡ sets table 0 words) → out ≡ cleared whole n
-      → FacesDecoded declaration counts d faces.TheVariants.Read table out
-  decoded_read f whole out n size room there p =
-      let g = faces_told r after part j e f in
-      let many : length g.0 ≡ n = faces_length declaration counts (get_or counts 0 0) d g.0 g.1 ∙ sym size in
-      record { answer = rw g.1; stored = rw g.1 (stored_cleared table whole out g.0 n (there g.0 many g.1) many room p) }
-
--- the same for the faces of a continuation, after w words of pools
-module _ (s : List ℕ) (declaration : Declaration) (counts : List ℕ) (at w : ℕ) (p : w ≡ words_before counts 5) (r : faces.Faces) (table after : List ℕ)
-    (decoded : FacesDecoded declaration counts (take (length s - (at + 4 * w)) (drop (at + 4 * w) s)) r table after) where
-  there : faces_of declaration counts (get_or counts 0 0) (take (length s - (at + 4 * w)) (drop (at + 4 * w) s)) ≡ faces_in s declaration counts at
-  there = faces_there s declaration counts at w p
-
-  answered_as : {x : faces.Faces} → r ≡ x → faces_given x [] ≡ on_done (faces_in s declaration counts at) λ _. done []
-  answered_as f = ap (λ (y : faces.Faces). faces_given y []) (sym f) ∙ decoded.answer ∙ rw there
-
-  pub filled_refused : {n : ℕ} → r ≡ faces.TheVariants.Refused n → FacesFilled s declaration counts at (Refused (record { number = n; place = at + 4 * w })) table after
-  filled_refused {n} f =
-      let g : faces_in s declaration counts at ≡ refused n 0 = refusal_before (faces_in s declaration counts at) (λ _. []) n 0 (sym (answered_as f)) in
-      record { answer = rw (g, p); stored = decoded.stored ∙ ap (λ (j : Judged (List ℕ)). faces_after j table) there }
-
-  pub filled_read : r ≡ faces.TheVariants.Read → FacesFilled s declaration counts at (At (at + 4 * w)) table after
-  filled_read f =
-      let g = value_before (faces_in s declaration counts at) _ [] (sym (answered_as f)) in
-      record { answer = rw (g.1, p); stored = decoded.stored ∙ ap (λ (j : Judged (List ℕ)). faces_after j table) there }
-
-module _ (s : List ℕ) (declaration : Declaration) (counts : List ℕ) (at : ℕ) (r : Next) (table after : List ℕ)
-    (filled : FacesFilled s declaration counts at r table after) where
-  answered_next : {x : Next} → r ≡ x → next_given x ≡ on_done (placed_at (faces_start at counts) (faces_in s declaration counts at)) λ _. done (faces_start at counts)
-  answered_next f = ap next_given (sym f) ∙ filled.answer
-
-  pub faces_refused : {e : Refusal} → r ≡ Refused e → (faces_judged s declaration counts at ≡ refused e.number e.place) × (after ≡ table)
-  unfolding faces_judged
-  faces_refused {e} f = let g = go (faces_in s declaration counts at) (answered_next f) in (g.0, filled.stored ∙ g.1)
-    where
-      go : (j : Judged (List ℕ)) → refused e.number e.place ≡ on_done (placed_at (faces_start at counts) j) (λ _. done (faces_start at counts))
-          → (on_done (placed_at (faces_start at counts) j) (λ _. done (mesh_from s declaration counts at)) ≡ refused e.number e.place) × (faces_after j table ≡ table)
-      go (done words) g = not_done g
-      go (refused n q) g = let a : e.number ≡ n = cc in let b : e.place ≡ faces_start at counts = cc in (rw (a, b), refl)
-
-  pub faces_filled : {end : ℕ} → r ≡ At end → (faces_judged s declaration counts at ≡ done (mesh_from s declaration counts at)) × (after ≡ table_of (base_faces s declaration counts at) table)
-  unfolding faces_judged base_faces
-  faces_filled {end} f = let g = go (faces_in s declaration counts at) (answered_next f) in (g.0, filled.stored ∙ g.1)
-    where
-      go : (j : Judged (List ℕ)) → done end ≡ on_done (placed_at (faces_start at counts) j) (λ _. done (faces_start at counts))
-          → (on_done (placed_at (faces_start at counts) j) (λ _. done (mesh_from s declaration counts at)) ≡ done (mesh_from s declaration counts at))
-          × (faces_after j table ≡ table_of (words_or j) table)
-      go (done words) g = (refl, refl)
-      go (refused n q) g = not_done (sym g)
+pub faces_filled : (s : List ℕ) (declaration : Declaration) (counts : List ℕ) (at : ℕ) (r : faces.Faces) (table after out : List ℕ) (w : ℕ)
+    → w ≡ words_before counts 5 → FacesFit s declaration counts at (length table)
+    → faces_given r after ≡ stored_faces table 0 (faces_of declaration counts (get_or counts 0 0) (take (length s - (at + 4 * w)) (drop (at + 4 * w) s)))
+    → out ≡ take (face_words * get_or counts 0 0) after ++ replicate (length after - face_words * get_or counts 0 0) 0
+    → out ≡ table_of (base_faces s declaration counts at) table
+faces_filled s declaration counts at r table after out w p fit e f =
+    let g = e ∙ ap (stored_faces table 0) (faces_there s declaration counts at w p) in
+    let words = base_faces s declaration counts at in
+    let long : length words ≡ face_words * get_or counts 0 0 = faces_length declaration counts (get_or counts 0 0) _ words fit.coded in
+    stored_cleared table after out words (face_words * get_or counts 0 0) (faces_stored r after table words _ g fit.coded) long fit.room f
 
 -- ---- a continuation
 
@@ -252,7 +205,7 @@ pub judged_refused : (s : List ℕ) (declaration : Declaration) (r : Head) (n p 
 unfolding judged_given
 judged_refused s declaration r n p e = go r.next e
   where
-    go : (x : Next) → ended_given x r.counts ≡ refused n p → on_done (next_given x) (λ at. faces_judged s declaration r.counts at) ≡ refused n p
+    go : (x : Next) → ended_given x r.counts ≡ refused n p → on_done (next_given x) (λ at. done (mesh_from s declaration r.counts at)) ≡ refused n p
     go (At at) f = not_done (sym f)
     go (Refused x) f = cc
 
@@ -270,7 +223,26 @@ module _ (s name : List ℕ) (declaration : Declaration) (lengths : List ℕ) wh
     unfolding base_of contents_at
     base_contents f = rw (e, f)
 
+-- the pools start within the bytes
+pub head_within : (s name : List ℕ) (declaration : Declaration) (h : Ended (List ℕ)) → head_of s name declaration ≡ done h → h.next ≤ length s
+unfolding head_of
+head_within s name declaration h e =
+    let size = value_before (name_at s 0) _ h e in
+    let alike = passed (not (same (name_part s 0) name)) bad_name 0 _ h size.2 in
+    let fields = value_before (run_at (base_rules declaration) s (size.0 + 2)) _ h alike.1 in
+    let end : h ≡ record { value = values_of fields.0 1 6; next = size.0 + 30 } = cc in
+    let n = name_within s 0 size.0 size.1 in
+    let w = run_within (base_rules declaration) s (size.0 + 2) fields.0 (omega (arith, n.0)) fields.1 in
+    omega (arith, w, rules_length declaration, ap (λ (x : Ended (List ℕ)). x.next) end)
+
 -- ---- what is judged fits
+
+pub contents_fit : (s : List ℕ) (declaration : Declaration) (counts : List ℕ) (at : ℕ) (lengths : List ℕ) (r : Head) → ContentsFit s declaration counts at r
+    → has_room lengths counts ≡ true → JudgedFits s declaration lengths r
+contents_fit s declaration counts at lengths r fit room x f =
+    let k = fit x f in
+    let at_room = room_at lengths counts room in
+    rw (k.0, k.1) (record { within = k.2; room = at_room 0 (omega arith); coded = k.3 }, at_room)
 
 -- the words before a later pool are not fewer
 before_le : (counts : List ℕ) (k m : ℕ) → k ≤ m → words_before counts k ≤ words_before counts m
@@ -280,22 +252,22 @@ before_le counts k (suc m) h =
     ⊎_elim (λ (e : k ≡ suc m). rw e (omega arith)) (λ (l : k < suc m). omega (arith, before_le counts k m (omega arith))) (eq-or-lt_of_le h)
 
 -- what filling the table of a pool asks
-pub pool_fits : (s : List ℕ) (t : Tables) (r : Head) → JudgedFits s (lengths_of t) r → (at : ℕ) → r.next ≡ At at → (k : ℕ) → k < 5
+pub pool_fits : (s : List ℕ) (declaration : Declaration) (t : Tables) (r : Head) → JudgedFits s declaration (lengths_of t) r → (at : ℕ) → r.next ≡ At at → (k : ℕ) → k < 5
     → (k < 5) × (pool_at at r.counts (suc k) ≤ length s) × (words_in r.counts (suc k) ≤ get_or (lengths_of t) (suc k) 0)
-pool_fits s t r fits at e k h =
+pool_fits s declaration t r fits at e k h =
     let f = fits at e in
-    (h, omega (arith, f.within, before_le r.counts (suc k) 5 (omega arith)), f.room (suc k) (omega arith))
+    (h, omega (arith, f.0.within, before_le r.counts (suc k) 5 (omega arith)), f.1 (suc k) (omega arith))
 
 -- ---- answers and tables
 
 module _ (s : List ℕ) (declaration : Declaration) (r : Head) {j : Judged Mesh} (e : judged_given s declaration r ≡ j) where
-  pub judged_done : {at : ℕ} → r.next ≡ At at → j ≡ faces_judged s declaration r.counts at
+  pub judged_done : {at : ℕ} → r.next ≡ At at → j ≡ done (mesh_from s declaration r.counts at)
   unfolding judged_given
-  judged_done f = sym e ∙ ap (λ (n : Next). on_done (next_given n) λ at. faces_judged s declaration r.counts at) f
+  judged_done f = sym e ∙ ap (λ (n : Next). on_done (next_given n) λ at. done (mesh_from s declaration r.counts at)) f
 
   pub judged_failed : {x : Refusal} → r.next ≡ Refused x → j ≡ refused x.number x.place
   unfolding judged_given
-  judged_failed f = sym e ∙ ap (λ (n : Next). on_done (next_given n) λ at. faces_judged s declaration r.counts at) f
+  judged_failed f = sym e ∙ ap (λ (n : Next). on_done (next_given n) λ at. done (mesh_from s declaration r.counts at)) f
 
 -- a refusal is answered, and leaves the tables
 pub answered_refused : (j : InPart Mesh) (p : Part) (n place : ℕ) (t : Tables) → j ≡ refused_in p n place

@@ -6,6 +6,7 @@ use native.Mathlib.Omega.{arith}
 use lib.ListN.{drop, length, length-drop, length-replicate, replicate, take}
 use lib.Seq.{length-sets, sets, sets-eq, take_all, take_at}
 use Rattle.fields.specs.Judged.{Judged, done, refused, on_done}
+use Rattle.fields.proofs.Judging.{not_done, same_done}
 use Rattle.fields.specs.declared.numbers.Refusal.{Refusal}
 use Rattle.mesh.specs.Run.{Ended, filled}
 use Rattle.mesh.specs.Inside.{ended_given}
@@ -16,11 +17,6 @@ use Rattle.mesh.specs.declared.run.Next.TheVariants.{At, Refused}
 pub on_mapped : {A B C : Type 0} (j : Judged A) (f : A → B) (k : B → Judged C) → on_done (on_done j (λ a. done (f a))) k ≡ on_done j (λ a. k (f a))
 on_mapped (done a) f k = refl
 on_mapped (refused n p) f k = refl
-
--- what follows is the same from each value
-pub on_same : {A B : Type 0} (j : Judged A) {f g : A → Judged B} → ((a : A) → f a ≡ g a) → on_done j f ≡ on_done j g
-on_same (done a) h = h a
-on_same (refused n p) h = refl
 
 -- an answer with its end: what was judged, by its two cases
 pub ended_at : {A : Type 0} (next : Next) (value : A) {j : Judged (Ended A)} {at : ℕ} → ended_given next value ≡ j → next ≡ At at
@@ -61,3 +57,8 @@ stored_cleared t after out vs n e l h f =
 -- the part of a list from a place to its end
 pub to_end : (s : List ℕ) (a : ℕ) → take (length s - a) (drop a s) ≡ drop a s
 to_end s a = take_all (length s - a) (drop a s) (omega (arith, length-drop a s))
+
+-- the value of an answer that is done
+pub ended_value : {A : Type 0} (next : Next) (value : A) (r : Ended A) → ended_given next value ≡ done r → value ≡ r.value
+ended_value {A} (At at) value r e = ap (λ (x : Ended A). x.value) (same_done e)
+ended_value (Refused e) value r f = not_done f

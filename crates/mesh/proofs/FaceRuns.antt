@@ -1,34 +1,32 @@
 -- Faces one after the other: a shading id, its corners, and the words as they are stored.
 use Prim.Native.Nat.{ℕ, zero, suc, ◌+◌, ◌-◌, ◌*◌, ◌%◌, ◌≤◌, ◌<◌}
-use mathlib.Core.Path.{◌≡◌, ◌∙◌, ap, refl, sym}
+use mathlib.Core.Path.{◌≡◌, ◌∙◌, ap, subst, sym}
 use mathlib.Core.List.{List, [], ◌∷◌, ◌++◌}
+use native.Mathlib.Nat.{not-suc-le-zero}
 use native.Mathlib.Numerals.{add-one}
 use native.Mathlib.Omega.{arith}
 use borrow.Author.Tests.{leb-false}
 use lib.Dec.{leb}
-use lib.ListN.{get_or, length, length-append, set}
+use lib.ListN.{length, length-append, set}
 use lib.Seq.{sets}
 use Rattle.fields.specs.Judged.{Judged, done, refused}
 use Rattle.fields.specs.Numbers.{out_of_range}
 use Rattle.fields.proofs.Stores.{sets_append}
 use Rattle.fields.proofs.Judging.{not_done, passed, refusal_before, same_done, value_before}
-use Rattle.coder.specs.Histogram.{Histogram, WellFormedHistogram, fresh_histogram, sum, symbols}
-use Rattle.coder.specs.Interval.{fresh}
+use Rattle.coder.specs.Bytes.{bit_at}
+use Rattle.coder.specs.Histogram.{Histogram, fresh_histogram, sum}
+use Rattle.coder.specs.Interval.{Inverted, fresh}
 use Rattle.coder.specs.Reading.{taken_histogram}
 use Rattle.coder.specs.declared.interval.Coder.{Coder}
 use Rattle.coder_theorems.specs.Runs.{Histograms, call_read}
 use Rattle.mesh.specs.Corners.{corner_fields, face_words, form_of, shading_context}
 use Rattle.mesh.specs.Faces.{Coded, coded_number, corners_from, face_from, faces_from, faces_of, field_from, shading_from}
-use Rattle.mesh.specs.Inside.{AllAsked, RangesOf, corners_given, faces_given, fields_from, stored_faces, stored_words}
-use Rattle.mesh.specs.Shading.{shading_limit}
-use Rattle.mesh.specs.Lanes.{coder_of}
-use Rattle.mesh.specs.declared.lane.Lane.{Lane}
+use Rattle.mesh.specs.Inside.{corners_given, faces_given, stored_faces, stored_words}
 use Rattle.mesh.specs.declared.declaration.Declaration.{Declaration}
 use Rattle.mesh.specs.declared.faces.CornerForm.{CornerForm}
 use Rattle.mesh.specs.declared.faces.Corners as corners
 use Rattle.mesh.specs.declared.faces.Faces as faces
 use Rattle.mesh.proofs.Chains.{on_mapped}
-use Rattle.mesh.proofs.Corners.{corners_fields}
 
 -- ---- corners
 
@@ -45,23 +43,16 @@ corners_length form (suc left) n d s r e =
 
 -- what a caller learns of corners that were read, or refused
 module _ (r : corners.Corners) (after table : List ℕ) (at : ℕ) (j : Judged (Coded (List ℕ))) (e : corners_given r after ≡ stored_words table at j) where
-  pub corners_told : (l : Lane) → r ≡ corners.TheVariants.Read l → (w : List ℕ) × (j ≡ done (record { value = w; state = coder_of l })) × (after ≡ sets table at w)
-  corners_told l f =
-      let c : Coded (List ℕ) = record { value = after; state = coder_of l } in
+  pub corners_told : (s : Coder) → r ≡ corners.TheVariants.Read s → (w : List ℕ) × (j ≡ done (record { value = w; state = s })) × (after ≡ sets table at w)
+  corners_told s f =
+      let c : Coded (List ℕ) = record { value = after; state = s } in
       let g = value_before j _ c (sym e ∙ ap (λ (x : corners.Corners). corners_given x after) f) in
       let same : ◌≡◌ {A = Coded (List ℕ)} (record { value = sets table at g.0.value; state = g.0.state }) c = cc in
-      let state : g.0.state ≡ coder_of l = ap (λ (x : Coded (List ℕ)). x.state) same in
+      let state : g.0.state ≡ s = ap (λ (x : Coded (List ℕ)). x.state) same in
       (g.0.value, g.1 ∙ ap (λ (x : Coder). done (record { value = g.0.value; state = x })) state, sym (ap (λ (x : Coded (List ℕ)). x.value) same))
 
   pub corners_failed : (n : ℕ) → r ≡ corners.TheVariants.Refused n → j ≡ refused n 0
   corners_failed n f = refusal_before j _ n 0 (sym e ∙ ap (λ (x : corners.Corners). corners_given x after) f)
-
--- the corners of a shading, by what was found of all shadings and of the ranges
-pub corners_of : (declaration : Declaration) (counts all ranges : List ℕ) → AllAsked declaration counts all → RangesOf counts ranges
-    → (id : ℕ) → id < shading_limit → (d : List ℕ) (s : Coder)
-    → fields_from (get_or all id 0) ranges (3 * corner_fields) 0 d s ≡ corners_from (form_of declaration counts id) (3 * corner_fields) 0 d s
-corners_of declaration counts all ranges a r id h d s =
-    ap (λ (asked : ℕ). fields_from asked ranges (3 * corner_fields) 0 d s) (a id h) ∙ corners_fields (form_of declaration counts id) ranges r d (3 * corner_fields) 0 s (omega arith)
 
 -- ---- shadings
 
@@ -125,9 +116,8 @@ faces_none declaration counts count i hs d s table at h =
 
 -- ---- the start
 
-pub fresh_formed : (h : Histogram) → h ≡ fresh_histogram → WellFormedHistogram h × (length h ≡ symbols)
-unfolding sum
-fresh_formed h e = rw e (record { escape = omega arith; bounded = omega arith }, refl)
+pub fresh_inverted : (d : List ℕ) (s : Coder) → s ≡ fresh → Inverted s (bit_at d)
+fresh_inverted d s e = subst (λ (x : Coder). Inverted x (bit_at d)) (sym e) (λ i h. absurd (not-suc-le-zero h))
 
 pub fresh_total : (h : Histogram) → h ≡ fresh_histogram → 1 ≡ sum h
 unfolding sum

@@ -1,19 +1,19 @@
--- The caller's tables: their words, the test for room, zeros to a table's end, and from its start.
+-- The caller's tables: their words, the test for room, and zeros to a table's end.
 use Prim.Native.Nat.{ℕ, zero, suc, ◌+◌, ◌-◌, ◌≤◌, ◌<◌}
-use mathlib.Core.Path.{◌≡◌, ◌∙◌, ap, sym}
+use mathlib.Core.Path.{◌≡◌, sym}
 use mathlib.Core.Bool.{true}
-use mathlib.Core.List.{List, [], ◌∷◌, ◌++◌, append_assoc, append-nil}
+use mathlib.Core.List.{List, ◌∷◌, ◌++◌, append_assoc, append-nil}
 use native.Mathlib.Nat.{mul-le-mul}
 use native.Mathlib.Numerals.{add-one}
 use native.Mathlib.Omega.{arith}
 use borrow.Author.Tests.{leb-true}
 use mir.Val.{Fits}
 use mir.Syntax.{w32}
-use lib.ListN.{drop, drop_of_length-le, get_or, length, length-replicate, length-set, replicate, replicate-append-replicate, set, take, take-append-drop}
-use lib.Seq.{drop_at, length-take-le, sets, sets-eq, take_all, take_at, take-suc, take-suc-set}
+use lib.ListN.{get_or, length, length-set, replicate, set, take}
+use lib.Seq.{take_all, take-suc-set}
 use Rattle.fields.proofs.All.{all_at}
 use Rattle.mesh.specs.Base.{has_room, table_count, table_fits, widths, words_in}
-use Rattle.mesh.specs.Inside.{StartsClear, words_before}
+use Rattle.mesh.specs.Inside.{words_before}
 
 -- ---- words
 
@@ -59,26 +59,3 @@ pub clear_none : (t : List ℕ) (i : ℕ) → length t ≤ i → cleared t i ≡
 clear_none t i h =
     let k : length t - i ≡ 0 = omega arith in
     rw (k, take_all i t h) (append-nil t)
-
--- ---- zeros from the start
-
-pub clear_one : (t : List ℕ) (i : ℕ) → i < length t → StartsClear i t → get_or t i 0 ≡ 0 → StartsClear (i + 1) t
-clear_one t i h e z = rw add-one (take-suc t i 0 h ∙ rw (e, z) (replicate-append-replicate i 1 0 ∙ ap (λ (n : ℕ). replicate n 0) (add-one i)))
-
--- a part of zeros that was written in, once it is cleared
-pub zeros_back : (t a o : List ℕ) (n : ℕ) → StartsClear n t → length a ≡ length (take n t) → o ≡ cleared (take n (a ++ drop n t)) 0
-    → o ++ drop n (a ++ drop n t) ≡ t
-zeros_back t a o n e l p =
-    let long : length a ≡ n = l ∙ ap length e ∙ length-replicate n 0 in
-    let less : n - 0 ≡ n = omega arith in
-    let zeros : o ≡ take n t = p ∙ rw (take_at a (drop n t) n long, long, less) (sym e) in
-    rw (zeros, drop_at a (drop n t) n long) (take-append-drop n t)
-
--- a list that was stored in the part that it fills
-pub part_stored : (t a words : List ℕ) (n : ℕ) → n ≤ length t → length words ≡ n → a ≡ sets (take n t) 0 words → a ++ drop n t ≡ sets t 0 words
-part_stored t a words n h l e =
-    let long = length-take-le n t h in
-    let same : 0 + length words ≡ n = omega arith in
-    let none : drop (0 + length words) (take n t) ≡ [] = drop_of_length-le (take n t) {i = 0 + length words} (omega arith) in
-    let full : a ≡ words = e ∙ sets-eq words (take n t) 0 (omega arith) ∙ rw none (append-nil words) in
-    rw full (sym (sets-eq words t 0 (omega arith) ∙ rw same))

@@ -8,13 +8,13 @@ use borrow.Author.Tests.{le-ltb, ltb-false}
 use lib.Dec.{ltb}
 use lib.ListN.{get_or, length, replicate, set}
 use lib.Seq.{sets}
-use Rattle.fields.specs.Field.{field_at, little_endian}
+use Rattle.fields.specs.Field.{field_at}
 use Rattle.fields.specs.Judged.{done, refused}
 use Rattle.fields.specs.Numbers.{out_of_order, over_limit}
 use Rattle.fields.specs.declared.numbers.Refusal.{Refusal}
 use Rattle.fields.proofs.Judging.{field_within, passed, refusal_before, value_before}
 use Rattle.mesh.specs.Run.{Ended, ruled_at, run_at, unjudged}
-use Rattle.mesh.specs.Inside.{ended_given, rule_at, rules_from, stored_run, values_from}
+use Rattle.mesh.specs.Inside.{ended_given, rule_at, rules_from, stored_run}
 use Rattle.mesh.specs.declared.run.Next.{Next}
 use Rattle.mesh.specs.declared.run.Next.TheVariants.{At, Refused}
 use Rattle.mesh.specs.declared.run.Rule.{Rule}
@@ -134,32 +134,3 @@ pub unjudged_rules : (n i : ℕ) → rules_from [] i n ≡ replicate n unjudged
 unfolding rules_from rule_at
 unjudged_rules zero i = refl
 unjudged_rules (suc n) i = rw (le-ltb (3 * i + 2) 0 (omega arith)) (ap (λ (l : List Rule). unjudged ∷ l) (unjudged_rules n (suc i)))
-
--- the value of four bytes
-pub four_bytes : (s : List ℕ) (at a b c d : ℕ) → a ≡ get_or s at 0 → b ≡ get_or s (at + 1) 0 → c ≡ get_or s (at + 2) 0 → d ≡ get_or s (at + 3) 0
-    → a + 256 * b + 65536 * c + 16777216 * d ≡ little_endian 4 s at
-unfolding little_endian
-four_bytes s at a b c d e f g h =
-    let p : at + 1 ≡ suc at = omega arith in
-    let q : at + 2 ≡ suc (suc at) = omega arith in
-    let r : at + 3 ≡ suc (suc (suc at)) = omega arith in
-    omega (arith, e, rw p at f, rw q at g, rw r at h)
-
-pub values_length : (s : List ℕ) (n at : ℕ) → length (values_from s at n) ≡ n
-unfolding values_from
-values_length s zero at = refl
-values_length s (suc n) at = ap suc (values_length s n (at + 4))
-
--- the loop that stores such values
-module _ (s : List ℕ) (from count i : ℕ) (table : List ℕ) where
-  pub values_more : (v : ℕ) → i < count → v ≡ little_endian 4 s (from + 4 * i)
-      → sets table i (values_from s (from + 4 * i) (count - i)) ≡ sets (set table i v) (i + 1) (values_from s (from + 4 * (i + 1)) (count - (i + 1)))
-  unfolding values_from
-  values_more v h e =
-      let k : count - i ≡ suc (count - (i + 1)) = omega arith in
-      let n : from + 4 * (i + 1) ≡ from + 4 * i + 4 = omega arith in
-      rw (k, values_from, n, e, add-one)
-
-  pub values_none : count ≤ i → sets table i (values_from s (from + 4 * i) (count - i)) ≡ table
-  unfolding values_from
-  values_none h = let k : count - i ≡ 0 = omega arith in rw (k, values_from)

@@ -4,5 +4,4 @@ pub mod Declaration
 pub mod Corners
 pub mod Faces
 pub mod Base
-pub mod Lanes
 pub mod Inside

@@ -1,16 +1,16 @@
-// The base mesh (clause 9.6.1.2): a refusal leaves the tables as they were.
-ghost use Rattle.std.specs.Prelude.{◌≡◌, suc, ◌≤◌, ◌<◌, get_or, length};
-ghost use Rattle.fields.specs.Limits.{largest_count, largest_file};
+// The base mesh (clause 9.6.1.2), judged whole before anything is stored.
+ghost use Rattle.std.specs.Prelude.{◌≡◌, suc, ◌≤◌, ◌<◌, length};
+ghost use Rattle.fields.specs.Limits.{largest_file};
 ghost use Rattle.mesh.specs.Base.{answered, base_of, lengths_of, mesh_given, mesh_of, refused_in, table_of, tables, tables_after, words_in};
-ghost use Rattle.mesh.specs.Inside.{FacesDecoded, FacesFilled, JudgedFits, StartsClear, counts_from, faces_start, in_continuation, judged_given, pool_at, pool_numbers};
+ghost use Rattle.mesh.specs.Inside.{ContentsFit, FacesFit, JudgedFits, base_faces, contents_at, counts_from, in_continuation, judged_given, pool_at, pool_numbers};
 ghost use Rattle.fields.specs.Numbers.{over_limit};
 ghost use Rattle.mesh.specs.Shading.{shading_limit};
 
 use crate::declaration::{Declaration, judge_declaration, mesh_name};
-use crate::faces::{Faces, read_faces};
+use crate::faces::{FACE_WORDS, Faces, read_faces};
 use crate::head::{Head, read_head, refused_head};
-use crate::run::{Next, read_unjudged};
-use crate::tables::{TABLES, clear_from, has_room, starts_clear, words_before, words_in};
+use crate::run::{Next, UNJUDGED, read_run};
+use crate::tables::{TABLES, clear_from, has_room, words_before, words_in};
 use fields::limits::LARGEST_FILE;
 use fields::numbers::{NO_ROOM, OVER_LIMIT, Refusal, TRUNCATED};
 
@@ -40,11 +40,37 @@ pub enum MeshRead {
     Refused(Part, Refusal),
 }
 
-// Judges a continuation up to its faces, for tables of these lengths; hands out where the pools start, and the counts.
+// Judges the pools, which start at `at`, and the faces after them; hands out where the pools start, and the counts.
+fn judge_contents(s: &[u8], declaration: Declaration, counts: [u32; TABLES], at: usize) -> Head
+    requires { (at ≤ length s.now) × (declaration.shading_count ≤ shading_limit) }
+    ensures result_value { judged_given s.now declaration result ≡ contents_at s.now declaration counts at }
+    ensures contents_fit { ContentsFit s.now declaration counts at result }
+{
+    let faces_at = at + 4 * words_before(counts, TABLES - 1);
+    if s.len() < faces_at {
+        return refused_head(Refusal {
+            number: TRUNCATED,
+            place: at + (s.len() - at) / 4 * 4,
+        });
+    }
+    let mut none = [0u32; 0];
+    match read_faces(&s[faces_at..], declaration, counts, &mut none) {
+        Faces::Refused(number) => refused_head(Refusal {
+            number,
+            place: faces_at,
+        }),
+        Faces::Read => Head {
+            next: Next::At(at),
+            counts,
+        },
+    }
+}
+
+// Judges a continuation under its declaration, for tables of these lengths.
 fn judge_base(s: &[u8], name: &[u8], declaration: Declaration, lengths: [usize; TABLES]) -> Head
-    requires { length s.now ≤ largest_file }
+    requires { (length s.now ≤ largest_file) × (declaration.shading_count ≤ shading_limit) }
     ensures result_value { judged_given s.now declaration result ≡ base_of s.now name.now declaration lengths }
-    ensures judged_fits { JudgedFits s.now lengths result }
+    ensures judged_fits { JudgedFits s.now declaration lengths result }
 {
     let head = read_head(s, name, declaration);
     let counts = head.counts;
@@ -58,13 +84,7 @@ fn judge_base(s: &[u8], name: &[u8], declaration: Declaration, lengths: [usize; 
                     place: 0,
                 });
             }
-            if s.len() < at + 4 * words_before(counts, TABLES - 1) {
-                return refused_head(Refusal {
-                    number: TRUNCATED,
-                    place: at + (s.len() - at) / 4 * 4,
-                });
-            }
-            Head { next, counts }
+            judge_contents(s, declaration, counts, at)
         }
     }
 }
@@ -77,80 +97,25 @@ fn fill_pool(s: &[u8], counts: [u32; TABLES], at: usize, k: usize, table: &mut [
 {
     let from = at + 4 * words_before(counts, k);
     let words = words_in(counts, k + 1);
-    read_unjudged(s, from, words, table);
+    read_run(s, from, &UNJUDGED, words, table);
     clear_from(table, words);
 }
 
-// Reads the faces over zeros, their words in the table; a refusal leaves zeros there.
-fn decode_over_zeros(
-    input: &[u8],
-    declaration: Declaration,
-    counts: [u32; TABLES],
-    words: usize,
-    table: &mut [u32],
-) -> Faces
-    requires words_value { (words ≡ words_in counts 0) × (words ≤ length table.old) × StartsClear words table.old }
-    requires shading_count_bound { (declaration.shading_count ≤ shading_limit) × (get_or counts 0 0 ≤ largest_count) × (length input.now ≤ largest_file) }
-    ensures { FacesDecoded declaration counts input.now result table.old table.new }
-{
-    match read_faces(input, declaration, counts, &mut table[..words]) {
-        Faces::Refused(number) => {
-            clear_from(&mut table[..words], 0);
-            Faces::Refused(number)
-        }
-        Faces::Read => {
-            clear_from(table, words);
-            Faces::Read
-        }
-    }
-}
-
-// Reads the faces into a table that a refusal leaves as it was: over zeros at once, and else they are judged first.
-fn decode_faces(
-    input: &[u8],
-    declaration: Declaration,
-    counts: [u32; TABLES],
-    table: &mut [u32],
-) -> Faces
-    requires counts_in_bounds { words_in counts 0 ≤ length table.old }
-    requires shading_count_bound { (declaration.shading_count ≤ shading_limit) × (get_or counts 0 0 ≤ largest_count) × (length input.now ≤ largest_file) }
-    ensures { FacesDecoded declaration counts input.now result table.old table.new }
-{
-    let words = words_in(counts, 0);
-    if starts_clear(&*table, words) {
-        return decode_over_zeros(input, declaration, counts, words, table);
-    }
-    let mut none = [0u32; 0];
-    match read_faces(input, declaration, counts, &mut none) {
-        Faces::Refused(number) => Faces::Refused(number),
-        Faces::Read => {
-            read_faces(input, declaration, counts, &mut *table);
-            clear_from(table, words);
-            Faces::Read
-        }
-    }
-}
-
-// Fills the table of faces, or leaves it where they are refused.
+// Fills the table of faces.
 fn fill_faces(
     s: &[u8],
     declaration: Declaration,
     counts: [u32; TABLES],
     at: usize,
     table: &mut [u32],
-) -> Next
-    requires counts_in_bounds { (faces_start at counts ≤ length s.now) × (words_in counts 0 ≤ length table.old) }
-    requires shading_count_bound { (declaration.shading_count ≤ shading_limit) × (get_or counts 0 0 ≤ largest_count) × (length s.now ≤ largest_file) }
-    ensures { FacesFilled s.now declaration counts at result table.old table.new }
+)
+    requires faces_fit { FacesFit s.now declaration counts at (length table.old) }
+    requires shading_count_bound { declaration.shading_count ≤ shading_limit }
+    ensures { table.new ≡ table_of (base_faces s.now declaration counts at) table.old }
 {
     let from = at + 4 * words_before(counts, TABLES - 1);
-    match decode_faces(&s[from..], declaration, counts, table) {
-        Faces::Refused(number) => Next::Refused(Refusal {
-            number,
-            place: from,
-        }),
-        Faces::Read => Next::At(from),
-    }
+    read_faces(&s[from..], declaration, counts, table);
+    clear_from(table, FACE_WORDS * (counts[0] as usize));
 }
 
 fn counts_of(counts: [u32; TABLES], shadings: u32) -> MeshCounts
@@ -200,14 +165,12 @@ fn read_base(
             return MeshRead::Refused(Part::Continuation, e);
         }
     };
-    if let Next::Refused(e) = fill_faces(s, declaration, counts, at, faces) {
-        return MeshRead::Refused(Part::Continuation, e);
-    }
     fill_pool(s, counts, at, 0, positions);
     fill_pool(s, counts, at, 1, normals);
     fill_pool(s, counts, at, 2, diffuse);
     fill_pool(s, counts, at, 3, specular);
     fill_pool(s, counts, at, 4, texture);
+    fill_faces(s, declaration, counts, at, faces);
     MeshRead::Read(counts_of(counts, declaration.shading_count))
 }
 

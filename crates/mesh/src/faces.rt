@@ -1,16 +1,20 @@
 // The coded faces of a base mesh (clause 9.6.1.2.4.6): a shading id, then three corners of the fields that it asks for.
-ghost use Rattle.std.specs.Prelude.{◌≡◌, ◌+◌, ◌*◌, ◌^◌, ◌<◌, ◌≤◌, get_or, length};
-ghost use Rattle.fields.specs.Limits.{largest_count, largest_file};
-ghost use Rattle.mesh.specs.Corners.{corner_fields, present};
-ghost use Rattle.mesh.specs.Faces.{faces_of};
+ghost use Rattle.std.specs.Prelude.{◌≡◌, [], ◌∷◌, ◌*◌, ◌^◌, ◌<◌, ◌≤◌, get_or};
+ghost use Rattle.coder.specs.Bytes.{bit_at};
+ghost use Rattle.coder.specs.Histogram.{sum};
+ghost use Rattle.coder.specs.Interval.{Inverted};
+ghost use Rattle.coder.specs.Reading.{read_given, taken_histogram};
+ghost use Rattle.mesh.specs.Corners.{corner_fields, present, range_of};
+ghost use Rattle.mesh.specs.Faces.{coded_number, corners_from, faces_of, field_from, shading_from};
 ghost use Rattle.mesh.specs.Shading.{shading_limit};
-ghost use Rattle.mesh.specs.Inside.{AllAsked, CornersFollow, FieldTaken, RangesOf, ReciprocalsOf, asked_from, bit_of, corners_given, faces_given, fields_from, range_in, refusal_of, stored_faces, stored_words};
-ghost use Rattle.mesh.specs.Lanes.{Ready, coder_of, reciprocal_of};
+ghost use Rattle.mesh.specs.Inside.{CornersInverted, ReadInverted, corners_given, faces_given, stored_faces, stored_words};
 
 use crate::declaration::Declaration;
-use crate::lane::{Lane, LaneRead, reciprocal};
-use crate::shading::{LAYERS, SHADINGS};
-use coder::histogram::fresh_histogram;
+use crate::shading::LAYERS;
+use coder::histogram::{SYMBOLS, fresh_histogram};
+use coder::interval::Coder;
+use coder::read::Read;
+use fields::numbers::OUT_OF_RANGE;
 use fields::words::put;
 
 // The words of a corner: position, normal, diffuse color, specular color, texture layers.
@@ -18,9 +22,6 @@ pub const CORNER_FIELDS: usize = 4 + LAYERS;
 
 // The words of a face's record: its shading, and three corners.
 pub const FACE_WORDS: usize = 1 + 3 * CORNER_FIELDS;
-
-// The numbers of a face after its shading.
-const CORNER_NUMBERS: usize = 3 * CORNER_FIELDS;
 
 // A corner's field that the face does not have.
 pub const ABSENT: u32 = 0xFFFFFFFF;
@@ -35,10 +36,10 @@ pub struct CornerForm {
     pub counts: [u32; 6],
 }
 
-// The state after the corners, or the number of a refusal.
+// The coder's state after the corners, or the number of a refusal.
 #[derive(Drop)]
-pub(crate) enum Corners {
-    Read(Lane),
+pub enum Corners {
+    Read(Coder),
     Refused(u32),
 }
 
@@ -69,9 +70,10 @@ fn is_present(form: CornerForm, field: usize) -> bool
 }
 
 // The base count that a field's number is below.
-fn range_of(counts: [u32; 6], field: usize) -> u32
-    ensures { result ≡ range_in counts field }
+fn range_of(form: CornerForm, field: usize) -> u32
+    ensures { result ≡ range_of form field }
 {
+    let counts = form.counts;
     if field < 4 {
         counts[field + 1]
     } else {
@@ -79,126 +81,79 @@ fn range_of(counts: [u32; 6], field: usize) -> u32
     }
 }
 
-// The ranges of a face's numbers after its shading.
-fn ranges_of(counts: [u32; 6]) -> [u32; CORNER_NUMBERS]
-    ensures { RangesOf counts result × (length result ≡ 3 * corner_fields) }
-{
-    let mut ranges = [0u32; CORNER_NUMBERS];
-    let mut n = 0;
-    while n < CORNER_NUMBERS {
-        ranges[n] = range_of(counts, n % CORNER_FIELDS);
-        n = n + 1;
-    }
-    ranges
-}
-
-// Their reciprocals.
-fn reciprocals_of(ranges: [u32; CORNER_NUMBERS]) -> [u64; CORNER_NUMBERS]
-    ensures { ReciprocalsOf ranges result × (length result ≡ 3 * corner_fields) }
-{
-    let mut reciprocals = [0u64; CORNER_NUMBERS];
-    let mut n = 0;
-    while n < CORNER_NUMBERS {
-        reciprocals[n] = reciprocal(ranges[n]);
-        n = n + 1;
-    }
-    reciprocals
-}
-
-// A test as a bit.
-fn bit_of(test: bool) -> u64
-    ensures { result ≡ bit_of test }
-{
-    if test { 1 } else { 0 }
-}
-
-// Which of the numbers after its shading a face has: a bit each, the first the lowest.
-fn asked_of(form: CornerForm) -> u64
-    ensures { result ≡ asked_from form (3 * corner_fields) 0 }
-{
-    let mut asked: u64 = 0;
-    let mut n = CORNER_NUMBERS;
-    while 0 < n {
-        n = n - 1;
-        asked = 2 * asked + bit_of(is_present(form, n % CORNER_FIELDS));
-    }
-    asked
-}
-
-// The same for each shading.
-fn all_asked(declaration: Declaration, counts: [u32; 6]) -> [u64; SHADINGS]
-    ensures { AllAsked declaration counts result }
-{
-    let shadings = declaration.shadings;
-    let mut all = [0u64; SHADINGS];
-    let mut id = 0;
-    while id < SHADINGS {
-        let shading = shadings[id];
-        all[id] = asked_of(CornerForm {
-            mesh_attributes: declaration.attributes,
-            shading_attributes: shading.attributes,
-            layer_count: shading.layer_count,
-            counts,
-        });
-        id = id + 1;
-    }
-    all
-}
-
 // Reads a field of a corner, where the face has it.
-fn take_field(here: bool, range: u32, reciprocal: u64, input: &[u8], lane: Lane) -> LaneRead
-    requires { Ready lane input.now × (reciprocal ≡ reciprocal_of range) }
-    ensures { FieldTaken here range input.now lane result }
+fn take_field(form: CornerForm, field: usize, input: &[u8], state: Coder) -> Read
+    requires { Inverted state (bit_at input.now) }
+    ensures result_value { coded_number (read_given result) ≡ field_from form field input.now state }
+    ensures read_inverted { ReadInverted input.now result }
 {
-    if here {
-        lane.take_static(input, range, reciprocal)
+    if is_present(form, field) {
+        state.take_static(input, range_of(form, field))
     } else {
-        LaneRead::Got(ABSENT, lane)
+        Read::Got(ABSENT, state)
     }
 }
 
 // Reads the three corners of a face, and stores their words from `at` on where there is room.
 fn read_corners(
-    ranges: &[u32],
-    reciprocals: &[u64],
-    asked: u64,
+    form: CornerForm,
     input: &[u8],
-    lane: Lane,
+    state: Coder,
     table: &mut [u32],
     at: usize,
 ) -> Corners
-    requires ready { Ready lane input.now × (lane.passed < lane.settled + 2 ^ 31) × (at < 2 ^ 40) }
-    requires ranges_len { (length ranges.now ≡ 3 * corner_fields) × (length reciprocals.now ≡ 3 * corner_fields) × ReciprocalsOf ranges.now reciprocals.now }
-    ensures table_after { corners_given result table.new
-        ≡ stored_words table.old at (fields_from asked ranges.now (3 * corner_fields) 0 input.now (coder_of lane)) }
-    ensures corners_follow { CornersFollow input.now lane result }
+    requires { Inverted state (bit_at input.now) × (at < 2 ^ 40) }
+    ensures table_after { corners_given result table.new ≡ stored_words table.old at (corners_from form (3 * corner_fields) 0 input.now state) }
+    ensures corners_inverted { CornersInverted input.now result }
 {
-    let mut l = lane;
-    let mut rest = asked;
+    let mut s = state;
     let mut n = 0;
-    while n < CORNER_NUMBERS {
-        match take_field(rest % 2 == 1, ranges[n], reciprocals[n], input, l) {
-            LaneRead::Refused(number) => {
+    while n < 3 * CORNER_FIELDS {
+        match take_field(form, n % CORNER_FIELDS, input, s) {
+            Read::Refused(number, _) => {
                 return Corners::Refused(number);
             }
-            LaneRead::Got(value, next) => {
+            Read::Got(value, next) => {
                 put(table, at + n, value);
-                l = next;
-                rest = rest / 2;
+                s = next;
                 n = n + 1;
             }
         }
     }
-    Corners::Read(l)
+    Corners::Read(s)
+}
+
+// Reads a face's shading id, which is below the shading count.
+fn take_shading(
+    input: &[u8],
+    state: Coder,
+    histogram: &mut [u32; SYMBOLS],
+    total: &mut u32,
+    shading_count: u32,
+) -> Read
+    requires { Inverted state (bit_at input.now) × (total.old ≡ sum histogram.old) }
+    ensures result_value { coded_number (read_given result) ≡ shading_from shading_count (histogram.old ∷ []) input.now state }
+    ensures read_inverted { ReadInverted input.now result }
+    ensures histogram_after { (histogram.new ≡ taken_histogram histogram.old input.now state) × (total.new ≡ sum histogram.new) }
+{
+    match state.take_dynamic(input, histogram, total) {
+        Read::Refused(number, next) => Read::Refused(number, next),
+        Read::Got(id, next) => {
+            if shading_count <= id {
+                return Read::Refused(OUT_OF_RANGE, next);
+            }
+            Read::Got(id, next)
+        }
+    }
 }
 
 // The number of a refusal; 0 where a value was read.
-fn refusal_number(read: LaneRead) -> u32
-    ensures { result ≡ refusal_of read }
+fn refusal_number(read: Read) -> u32
+    ensures { result ≡ (read_given read).number }
 {
     match read {
-        LaneRead::Got(_, _) => 0,
-        LaneRead::Refused(number) => number,
+        Read::Got(_, _) => 0,
+        Read::Refused(number, _) => number,
     }
 }
 
@@ -209,26 +164,35 @@ pub(crate) fn read_faces(
     counts: [u32; 6],
     table: &mut [u32],
 ) -> Faces
-    requires { (declaration.shading_count ≤ shading_limit) × (get_or counts 0 0 ≤ largest_count) × (length input.now ≤ largest_file) }
+    requires { declaration.shading_count ≤ shading_limit }
     ensures { faces_given result table.new ≡ stored_faces table.old 0 (faces_of declaration counts (get_or counts 0 0) input.now) }
 {
-    let all = all_asked(declaration, counts);
-    let ranges = ranges_of(counts);
-    let reciprocals = reciprocals_of(ranges);
+    let shadings = declaration.shadings;
     let mut histogram = fresh_histogram();
     let mut total: u32 = 1;
-    let mut lane = Lane::begin(input);
+    let mut s = Coder::fresh();
     let count = counts[0] as usize;
     let mut i = 0;
     while i < count {
-        let taken = lane.take_shading(input, &mut histogram, &mut total, declaration.shading_count);
-        let LaneRead::Got(id, next) = taken else {
+        let taken = take_shading(
+            input,
+            s,
+            &mut histogram,
+            &mut total,
+            declaration.shading_count,
+        );
+        let Read::Got(id, next) = taken else {
             return Faces::Refused(refusal_number(taken));
         };
         put(table, FACE_WORDS * i, id);
-        let asked = all[id as usize];
-        let at = FACE_WORDS * i + 1;
-        lane = match read_corners(&ranges, &reciprocals, asked, input, next, table, at) {
+        let shading = shadings[id as usize];
+        let form = CornerForm {
+            mesh_attributes: declaration.attributes,
+            shading_attributes: shading.attributes,
+            layer_count: shading.layer_count,
+            counts,
+        };
+        s = match read_corners(form, input, next, table, FACE_WORDS * i + 1) {
             Corners::Read(after) => after,
             Corners::Refused(number) => {
                 return Faces::Refused(number);

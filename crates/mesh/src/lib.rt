@@ -5,7 +5,6 @@ pub mod base;
 pub mod declaration;
 pub mod faces;
 pub mod head;
-mod lane;
 pub mod run;
 pub mod shading;
 pub mod tables;

@@ -1,10 +1,7 @@
-// Runs of U32 fields, judged by a table of rules or not at all, and the name before them.
+// Runs of U32 fields that are judged by a table of rules, and the name before them.
 ghost use Rattle.std.specs.Prelude.{◌≡◌, ◌+◌, ◌*◌, ◌≤◌, ◌<◌, length};
-ghost use Rattle.std.proofs.lemmas.List.Edits.{sets};
-ghost use Rattle.fields.specs.Field.{little_endian};
-ghost use Rattle.fields.specs.Limits.{largest_file};
 ghost use Rattle.mesh.specs.Run.{ruled_at, run_at};
-ghost use Rattle.mesh.specs.Inside.{ended_given, field_given, name_end, next_given, rule_at, rules_from, stored_run, values_from};
+ghost use Rattle.mesh.specs.Inside.{ended_given, field_given, name_end, next_given, rule_at, rules_from, stored_run};
 
 use fields::field::{U32Field, u32_at};
 use fields::limits::LARGEST_U32 as ANY;
@@ -130,30 +127,4 @@ pub(crate) fn read_run(
         i = i + 1;
     }
     Next::At(at)
-}
-
-fn wide(b: u8) -> u32
-    ensures { (result ≡ b) × (result < 256) }
-{
-    b as u32
-}
-
-// The U32 whose bytes stand at `at`, lowest byte first.
-fn value_at(s: &[u8], at: usize) -> u32
-    requires { at + 4 ≤ length s.now }
-    ensures { result ≡ little_endian 4 s.now at }
-{
-    wide(s[at]) + 0x100 * wide(s[at + 1]) + 0x10000 * wide(s[at + 2]) + 0x1000000 * wide(s[at + 3])
-}
-
-// Reads `count` fields that are not judged from `from` on, all within `s`, into a table.
-pub(crate) fn read_unjudged(s: &[u8], from: usize, count: usize, table: &mut [u32])
-    requires { (from + 4 * count ≤ length s.now) × (count ≤ length table.old) × (length s.now ≤ largest_file) }
-    ensures { table.new ≡ sets table.old 0 (values_from s.now from count) }
-{
-    let mut i = 0;
-    while i < count {
-        table[i] = value_at(s, from + 4 * i);
-        i = i + 1;
-    }
 }

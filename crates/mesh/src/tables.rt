@@ -1,7 +1,7 @@
 // The caller's tables: how many words each is to hold, and how they are stored.
-ghost use Rattle.std.specs.Prelude.{◌≡◌, true, ◌++◌, ◌-◌, ◌*◌, ◌^◌, ◌≤◌, ◌<◌, length, replicate, take};
+ghost use Rattle.std.specs.Prelude.{◌≡◌, ◌++◌, ◌-◌, ◌*◌, ◌^◌, ◌≤◌, ◌<◌, length, replicate, take};
 ghost use Rattle.mesh.specs.Base.{has_room, table_count, words_in};
-ghost use Rattle.mesh.specs.Inside.{StartsClear, words_before};
+ghost use Rattle.mesh.specs.Inside.{words_before};
 
 use crate::faces::FACE_WORDS;
 
@@ -14,9 +14,6 @@ pub const POSITION_WORDS: usize = 3;
 // The words of an entry in each table.
 const WIDTHS: [usize; TABLES] = [FACE_WORDS, POSITION_WORDS, 3, 4, 4, 4];
 
-// So many words are looked at before the look ends at one that is not 0.
-const STRIDE: usize = 1024;
-
 // Sets a table to zeros from an index on.
 pub(crate) fn clear_from(table: &mut [u32], from: usize)
     requires { from ≤ length table.old }
@@ -27,38 +24,6 @@ pub(crate) fn clear_from(table: &mut [u32], from: usize)
         table[i] = 0;
         i = i + 1;
     }
-}
-
-// Whether a table holds zeros from an index to another. All are looked at, so that many are compared at once.
-fn clear_between(table: &[u32], from: usize, end: usize) -> bool
-    requires { (from ≤ end) × (end ≤ length table.now) }
-    ensures { result ≡ true → StartsClear from table.now → StartsClear end table.now }
-{
-    let mut clear = true;
-    let mut i = from;
-    while i < end {
-        if table[i] != 0 {
-            clear = false;
-        }
-        i = i + 1;
-    }
-    clear
-}
-
-// Whether a table holds zeros before an index.
-pub(crate) fn starts_clear(table: &[u32], end: usize) -> bool
-    requires { end ≤ length table.now }
-    ensures { result ≡ true → StartsClear end table.now }
-{
-    let mut i = 0;
-    while i < end {
-        let next = if end - i < STRIDE { end } else { i + STRIDE };
-        if !clear_between(table, i, next) {
-            return false;
-        }
-        i = next;
-    }
-    true
 }
 
 // The words that table i is to hold.

@@ -16,10 +16,10 @@ use Rattle.mesh.specs.Base.{Mesh, base_of, has_room, head_of, mesh_of, pool_word
 use Rattle.mesh.specs.Declaration.{declaration_of, mesh_name}
 use Rattle.mesh.specs.declared.base.Part as part
 use Rattle.mesh.specs.declared.declaration.Declaration.{Declaration}
-use Rattle.mesh.proofs.Heads.{counts_small}
 use Rattle.mesh.proofs.Rooms.{room_at}
 use Rattle.mesh.proofs.Runs.{run_length}
 use Rattle.mesh_theorems.proofs.Below.{base_faces, below_length, part_before}
+use Rattle.mesh_theorems.proofs.SmallCounts.{counts_small}
 
 pub record Housed (lengths : List ℕ) (m : Mesh) : Type 0 where
   pub small : (i : ℕ) → get_or m.counts i 0 ≤ largest_count

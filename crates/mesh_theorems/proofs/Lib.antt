@@ -3,6 +3,7 @@ pub mod CornerInfo
 -- Every number handed out is within the mesh.
 pub mod Below
 -- No answer of the coder is 9 or 18 here.
+pub mod SmallCounts
 pub mod Sound
 -- What a file states is read back.
 pub mod Seams

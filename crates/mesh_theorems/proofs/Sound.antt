@@ -28,9 +28,9 @@ use Rattle.mesh.specs.declared.declaration.Declaration.{Declaration}
 use Rattle.mesh.specs.declared.faces.CornerForm.{CornerForm}
 use Rattle.mesh.specs.declared.base.Part.{Part}
 use Rattle.mesh.specs.declared.base.Part as part
-use Rattle.mesh.proofs.Heads.{counts_small}
 use Rattle.mesh.proofs.Refusals.{Listed, Numbered, after, declaration_numbered, head_numbered, pools_numbered, sized_numbered, unless}
 use Rattle.mesh_theorems.specs.Refusals.{mesh_numbers}
+use Rattle.mesh_theorems.proofs.SmallCounts.{counts_small}
 
 -- ---- judging that stays steady
 

@@ -66,6 +66,11 @@ module _ (t : List ℕ) (n : ℕ) (e : all (step_formed_at t) n ≡ true) where
   step_of : (k : ℕ) → k < n → Formed t (step_offset t k)
   step_of k h = formed t (step_offset t k) (all_at (step_formed_at t) n k e h)
 
+  pub offset_within : head_words ≤ length t → (k : ℕ) → k ≤ n → step_offset t k ≤ length t
+  unfolding step_offset
+  offset_within long zero h = long
+  offset_within long (suc k) h = (step_of k h).body
+
   pub faces_within : (k : ℕ) → k ≤ n → faces_before t k ≤ base_faces t + most_new_faces * k
   unfolding faces_before
   faces_within zero h = omega arith

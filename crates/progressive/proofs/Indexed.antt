@@ -4,7 +4,6 @@ use Rattle.std.proofs.Common.{◌≡◌, ℕ, zero, suc, ◌+◌, ◌-◌, ◌<�
 use mathlib.Core.Bool.{and-false, and-true}
 use native.Mathlib.Numerals.{unary_clauses}
 use lib.Seq.{set-get_or, set_comm}
-use Rattle.fields.specs.All.{all}
 use Rattle.fields.specs.Judged.{pick}
 use Rattle.fields.proofs.All.{all_fails, all_more, all_true}
 use Rattle.progressive.specs.Indexed.{from, shows, writes}
@@ -131,30 +130,20 @@ module _ (ix val : ℕ → ℕ) (l : List ℕ) (i : ℕ) {k x v : ℕ} (at : k �
   pub show_fails : (n : ℕ) → i < n → (x ≡ v → ⊥) → false ≡ shows ix val l n
   show_fails n b differ = sym (all_fails (λ j. eqb (get_or l (ix j) 0) (val j)) n i b (ne_eqb (get_or l (ix i) 0) (val i) (rw (← at, ← want, ← read) differ)))
 
--- ---- a loop that looks at every index: b is its answer so far
-module _ (p : ℕ → Bool) (i : ℕ) {b : Bool} (so_far : b ≡ all p i) where
-  pub still_all : p i ≡ true → b ≡ all p (i + 1)
-  still_all h = rw (add-one i, h, and-true) so_far
-
-  pub not_all : p i ≡ false → false ≡ all p (i + 1)
-  not_all h = rw (add-one i, h, and-false)
-
-  pub looked_all : (n : ℕ) → i ≤ n → n ≤ i → b ≡ all p n
-  looked_all n h k = let q : i ≡ n = omega arith in rw q at so_far
-
-module _ (ix val : ℕ → ℕ) (l : List ℕ) (i : ℕ) {b : Bool} (so_far : b ≡ shows ix val l i) where
-  pub still_shown : get_or l (ix i) 0 ≡ val i → b ≡ shows ix val l (i + 1)
-  still_shown same = still_all (λ j. eqb (get_or l (ix j) 0) (val j)) i so_far (eq-eqb (get_or l (ix i) 0) (val i) same)
-
-  pub not_shown : (get_or l (ix i) 0 ≡ val i → ⊥) → false ≡ shows ix val l (i + 1)
-  not_shown differ = not_all (λ j. eqb (get_or l (ix j) 0) (val j)) i so_far (ne_eqb (get_or l (ix i) 0) (val i) differ)
-
 -- the end of such a loop, whatever its answer b is; and where all were shown
 pub look_done : (ix val : ℕ → ℕ) (l : List ℕ) (n i : ℕ) {b : Bool} → i ≤ n → n ≤ i → b ≡ shows ix val l i → b ≡ shows ix val l n
-look_done ix val l n i h k e = looked_all (λ j. eqb (get_or l (ix j) 0) (val j)) i e n h k
+look_done ix val l n i a h e = let q : i ≡ n = omega arith in rw q at e
 
 pub show_done : (ix val : ℕ → ℕ) (l : List ℕ) (n i : ℕ) → i ≤ n → n ≤ i → shows ix val l i ≡ true → true ≡ shows ix val l n
 show_done ix val l n i a b e = look_done ix val l n i a b (sym e)
+
+-- ---- a loop that looks at every index: b is its answer so far
+module _ (ix val : ℕ → ℕ) (l : List ℕ) (i : ℕ) {b : Bool} (so_far : b ≡ shows ix val l i) where
+  pub still_shown : get_or l (ix i) 0 ≡ val i → b ≡ shows ix val l (i + 1)
+  still_shown same = rw (add-one i, eq-eqb (get_or l (ix i) 0) (val i) same, and-true) so_far
+
+  pub not_shown : (get_or l (ix i) 0 ≡ val i → ⊥) → false ≡ shows ix val l (i + 1)
+  not_shown differ = rw (add-one i, ne_eqb (get_or l (ix i) 0) (val i) differ, and-false)
 
 -- ---- a comparison in parts, one after the other
 and_assoc : (a b c : Bool) → (a && b) && c ≡ a && (b && c)

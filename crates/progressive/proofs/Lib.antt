@@ -5,7 +5,6 @@ pub mod Rooms
 pub mod Reaching
 pub mod Marking
 pub mod Corners
-pub mod Triangle
 pub mod Allowing
 pub mod Laying
 pub mod Judgements

@@ -8,11 +8,11 @@ use Rattle.fields.proofs.Judging.{passed, same_done, value_before}
 use Rattle.progressive.specs.declared.levels.Place.{Place}
 use Rattle.progressive.specs.declared.levels.StepSpot.{StepSpot}
 use Rattle.progressive.specs.declared.levels.Walked.{Walked}
-use Rattle.progressive.specs.StepTable.{base_faces, base_positions, faces_before, head_words, new_face_count, next_step, step_count, step_formed, step_offset, step_words, well_formed}
+use Rattle.progressive.specs.StepTable.{base_faces, base_positions, faces_before, head_words, new_face_count, next_step, step_count, step_formed, step_offset, well_formed}
 use Rattle.progressive.specs.Steps.{counts_agree, level_of}
 use Rattle.progressive.specs.Inside.{Arrived, AtStep, place_at, place_of}
 use Rattle.progressive.proofs.Indexed.{and_left, and_right}
-use Rattle.progressive.proofs.Formed.{FormedTable, faces_within, formed, formed_at, formed_table, test_failed}
+use Rattle.progressive.proofs.Formed.{FormedTable, faces_within, formed_at, formed_table, offset_within, test_failed}
 
 -- ---- from step to step
 
@@ -27,15 +27,15 @@ step_next t k {at} s e n = rw add-one (record { offset = e ∙ ap (next_step t) 
 
 -- what a formed table tells of a step of it
 pub record Within (t : List ℕ) (at : StepSpot) : Type 0 where
-  pub head : at.offset + step_words ≤ length t
+  pub offset : at.offset ≤ length t
   pub few : at.faces ≤ largest_count + most_new_faces * most_steps
 
-pub within : (t : List ℕ) (k : ℕ) {at : StepSpot} → well_formed t ≡ true → k < step_count t → AtStep t k at → Within t at
+pub within : (t : List ℕ) (k : ℕ) {at : StepSpot} → well_formed t ≡ true → k ≤ step_count t → AtStep t k at → Within t at
 within t k e h s =
     let table : FormedTable t = formed_table t e in
     record {
-      head = rw s.offset (formed t (step_offset t k) (formed_at t k e h)).head;
-      few = omega (arith, s.faces, faces_within t (step_count t) table.steps k (omega (arith, h)), table.faces, table.count);
+      offset = rw s.offset (offset_within t (step_count t) table.steps table.long k h);
+      few = omega (arith, s.faces, faces_within t (step_count t) table.steps k h, table.faces, table.count);
     }
 
 -- ---- the level of the present counts

@@ -1,5 +1,5 @@
 -- Inside the crate: what its private functions require and promise. No public promise cites this file.
-use Rattle.std.specs.Prelude.{◌≡◌, ℕ, ◌+◌, ◌-◌, ◌*◌, ◌/◌, ◌%◌, ◌<◌, ◌≤◌, Bool, true, ◌&&◌, List, length, ◌==◌, nat_le, slice_index, slice_set}
+use Rattle.std.specs.Prelude.{◌≡◌, ℕ, ◌+◌, ◌-◌, ◌*◌, ◌/◌, ◌%◌, ◌<◌, ◌≤◌, Bool, true, List, length, ◌==◌, slice_index, slice_set}
 use Rattle.fields.specs.All.{all}
 use Rattle.fields.specs.Limits.{largest_count}
 use Rattle.fields.specs.Judged.{Judged, done, refused, on_done, pick}
@@ -19,37 +19,32 @@ use Rattle.progressive.specs.Laying.{new_face_field, new_face_number}
 use Rattle.progressive.specs.Mesh.{Mesh}
 use Rattle.progressive.specs.Steps.{level_of}
 
--- ---- marks: mark j is step first + mark_steps * j
+-- ---- marks: mark j is step mark_steps * j
 
 abbrev pub mark_steps : ℕ
 mark_steps = 16
 
--- step k is a mark
-abbrev pub is_mark : ℕ → ℕ → Bool
-is_mark first k = nat_le first k && (k - first) % mark_steps == 0
-
 -- a table of marks with the value v of step k, if that is one
-abbrev pub with_mark : ℕ → ℕ → ℕ → List ℕ → List ℕ
-with_mark first k v l = pick (is_mark first k) (slice_set l ((k - first) / mark_steps) v) l
+abbrev pub with_mark : ℕ → ℕ → List ℕ → List ℕ
+with_mark k v l = pick (k % mark_steps == 0) (slice_set l (k / mark_steps) v) l
 
 -- the marks before step n are noted, as far as the table goes
-abbrev pub Noted : (ℕ → ℕ) → ℕ → List ℕ → ℕ → Type 0
-Noted val first l n = (j : ℕ) → j < length l → first + mark_steps * j < n → slice_index l j ≡ val (first + mark_steps * j)
+abbrev pub Noted : (ℕ → ℕ) → List ℕ → ℕ → Type 0
+Noted val l n = (j : ℕ) → j < length l → mark_steps * j < n → slice_index l j ≡ val (mark_steps * j)
 
-pub record MarksNoted (t : List ℕ) (first : ℕ) (offsets faces : List ℕ) (n : ℕ) : Type 0 where
-  pub offsets_noted : Noted (step_offset t) first offsets n
-  pub faces_noted : Noted (faces_before t) first faces n
+pub record MarksNoted (t offsets faces : List ℕ) (n : ℕ) : Type 0 where
+  pub offsets_noted : Noted (step_offset t) offsets n
+  pub faces_noted : Noted (faces_before t) faces n
 
 -- what was judged of a list and noted of its steps
-pub record Marked (t : List ℕ) (formed : Bool) (first : ℕ) (offsets faces : List ℕ) : Type 0 where
+pub record Marked (t : List ℕ) (formed : Bool) (offsets faces : List ℕ) : Type 0 where
   pub judged : formed ≡ well_formed t
   pub some : 0 < length offsets
   pub same : length faces ≡ length offsets
-  pub noted : well_formed t ≡ true → MarksNoted t first offsets faces (step_count t)
+  pub noted : well_formed t ≡ true → MarksNoted t offsets faces (step_count t)
 
--- the marks of a walk: the first step is one
 abbrev pub MarkedBy : List ℕ → Marks → Type 0
-MarkedBy t m = Marked t m.formed 0 m.offsets m.faces
+MarkedBy t m = Marked t m.formed m.offsets m.faces
 
 -- step k
 pub record AtStep (t : List ℕ) (k : ℕ) (r : StepSpot) : Type 0 where
@@ -87,13 +82,6 @@ pub record MoveNames (t : List ℕ) (o i face corner : ℕ) : Type 0 where
   pub within : o + step_words + move_words * (i + 1) ≤ length t
   pub face_is : face ≡ move_face t o i
   pub corner_is : corner ≡ move_corner t o i
-
--- 1 if the two are the same, else 0; how many of three are p
-unfoldable pub one_if_same : ℕ → ℕ → ℕ
-one_if_same a b = pick (a == b) 1 0
-
-abbrev pub times_in : ℕ → ℕ → ℕ → ℕ → ℕ
-times_in p a b c = one_if_same a p + one_if_same b p + one_if_same c p
 
 -- what the writes to a faces table of this length need of the step at offset o, between f faces, r positions and what it adds
 pub record FacesStep (t : List ℕ) (o face_room f r : ℕ) : Type 0 where

@@ -1,12 +1,12 @@
 // The form of a step table: base positions, base faces, step count; then per step the split position, x, y, z, how many moves and new
 // faces, a face and a corner for each move, a shading and three positions for each new face.
-ghost use Rattle.std.specs.Prelude.{◌≡◌, ◌+◌, ◌*◌, ◌^◌, ◌<◌, ◌≤◌, true, ◌&&◌, length, ◌==◌};
+ghost use Rattle.std.specs.Prelude.{◌≡◌, ◌^◌, ◌<◌, ◌≤◌, true, ◌&&◌, length, ◌==◌};
 ghost use Rattle.fields.specs.All.{all};
-ghost use Rattle.fields.specs.Limits.{largest_count, most_steps};
-ghost use Rattle.progressive.specs.StepTable.{base_faces, corner_formed, head_words, move_corner, move_face, move_words, next_step, step_formed, step_formed_at, step_offset, step_words};
+ghost use Rattle.fields.specs.Limits.{largest_count, most_moves, most_steps};
+ghost use Rattle.progressive.specs.StepTable.{base_faces, corner_formed, head_words, move_corner, move_face, next_step, step_formed, step_formed_at, step_offset};
 ghost use Rattle.progressive.specs.Inside.{Marked, MarksNoted, with_mark};
 
-use crate::words::{number, number_within};
+use crate::words::number;
 use fields::limits;
 use fields::words::put;
 
@@ -41,34 +41,33 @@ pub(crate) const MARK_STEPS: usize = 16;
 
 // The face that move i of a step names.
 pub(crate) fn move_face(steps: &[u32], step: usize, i: usize) -> usize
-    requires { step + step_words + move_words * (i + 1) ≤ length steps.now }
+    requires { (step ≤ length steps.now) × (i ≤ most_moves) }
     ensures { (result ≡ move_face steps.now step i) × (result < 2 ^ 32) }
 {
-    number_within(steps, step + STEP_WORDS + MOVE_WORDS * i)
+    number(steps, step + STEP_WORDS + MOVE_WORDS * i)
 }
 
 // The corner that move i of a step names.
 pub(crate) fn move_corner(steps: &[u32], step: usize, i: usize) -> usize
-    requires { step + step_words + move_words * (i + 1) ≤ length steps.now }
+    requires { (step ≤ length steps.now) × (i ≤ most_moves) }
     ensures { (result ≡ move_corner steps.now step i) × (result < 2 ^ 32) }
 {
-    number_within(steps, step + STEP_WORDS + 1 + MOVE_WORDS * i)
+    number(steps, step + STEP_WORDS + 1 + MOVE_WORDS * i)
 }
 
-// Every move names one of three corners. All are looked at, so that many are compared at once.
+// Every move names one of three corners.
 fn corners_formed(steps: &[u32], step: usize, count: usize) -> bool
-    requires { step + step_words + move_words * count ≤ length steps.now }
+    requires { (step ≤ length steps.now) × (count ≤ most_moves) }
     ensures { result ≡ all (corner_formed steps.now step) count }
 {
-    let mut formed = true;
     let mut i: usize = 0;
     while i < count {
         if 2 < move_corner(steps, step, i) {
-            formed = false;
+            return false;
         }
         i += 1;
     }
-    formed
+    true
 }
 
 // A step lies within the table and keeps the limits.
@@ -95,55 +94,38 @@ fn step_formed(steps: &[u32], step: usize) -> bool
 
 // The offset of the step after this one.
 pub(crate) fn next_step(steps: &[u32], step: usize) -> usize
-    requires { step + step_words ≤ length steps.now }
+    requires { step ≤ length steps.now }
     ensures { result ≡ next_step steps.now step }
 {
-    let moves = number_within(steps, step + MOVE_COUNT);
-    let faces = number_within(steps, step + NEW_FACE_COUNT);
+    let moves = number(steps, step + MOVE_COUNT);
+    let faces = number(steps, step + NEW_FACE_COUNT);
     step + STEP_WORDS + MOVE_WORDS * moves + NEW_FACE_WORDS * faces
 }
 
 // Notes step k, if it is a mark: its offset, and the number of faces before it.
-fn note_step(
-    offsets: &mut [u32],
-    faces_at: &mut [u32],
-    first: usize,
-    k: usize,
-    step: usize,
-    faces: usize,
-)
+fn note_step(offsets: &mut [u32], faces_at: &mut [u32], k: usize, step: usize, faces: usize)
     requires { (step < 2 ^ 32) × (faces < 2 ^ 32) }
-    ensures { (offsets.new ≡ with_mark first k step offsets.old)
-        × (faces_at.new ≡ with_mark first k faces faces_at.old) }
+    ensures { (offsets.new ≡ with_mark k step offsets.old)
+        × (faces_at.new ≡ with_mark k faces faces_at.old) }
 {
-    if k < first {
-        return;
-    }
-    let past = k - first;
-    if past % MARK_STEPS == 0 {
-        put(offsets, past / MARK_STEPS, step as u32);
-        put(faces_at, past / MARK_STEPS, faces as u32);
+    if k % MARK_STEPS == 0 {
+        put(offsets, k / MARK_STEPS, step as u32);
+        put(faces_at, k / MARK_STEPS, faces as u32);
     }
 }
 
-// So many steps are formed, and nothing comes after them; the marks among them, from the first one on, are noted on the way.
-fn steps_formed(
-    steps: &[u32],
-    count: usize,
-    first: usize,
-    offsets: &mut [u32],
-    faces_at: &mut [u32],
-) -> bool
+// So many steps are formed, and nothing comes after them; the marks among them are noted on the way.
+fn steps_formed(steps: &[u32], count: usize, offsets: &mut [u32], faces_at: &mut [u32]) -> bool
     requires { (head_words ≤ length steps.now) × (base_faces steps.now ≤ largest_count) × (count ≤ most_steps) }
     ensures { (result ≡ (all (step_formed_at steps.now) count
         && step_offset steps.now count == length steps.now))
-        × (result ≡ true → MarksNoted steps.now first offsets.new faces_at.new count) }
+        × (result ≡ true → MarksNoted steps.now offsets.new faces_at.new count) }
 {
     let mut step: usize = HEAD_WORDS;
     let mut faces = number(steps, 1);
     let mut k: usize = 0;
     while k < count {
-        note_step(offsets, faces_at, first, k, step, faces);
+        note_step(offsets, faces_at, k, step, faces);
         if !step_formed(steps, step) {
             return false;
         }
@@ -154,15 +136,10 @@ fn steps_formed(
     step == steps.len()
 }
 
-// The whole table has its form (else 13), and its marks are noted, from this step on, in one pass.
-pub(crate) fn well_formed(
-    steps: &[u32],
-    first: usize,
-    offsets: &mut [u32],
-    faces_at: &mut [u32],
-) -> bool
+// The whole table has its form (else 13), and its marks are noted, in one pass.
+pub(crate) fn well_formed(steps: &[u32], offsets: &mut [u32], faces_at: &mut [u32]) -> bool
     requires { (0 < length offsets.old) × (length faces_at.old ≡ length offsets.old) }
-    ensures { Marked steps.now result first offsets.new faces_at.new }
+    ensures { Marked steps.now result offsets.new faces_at.new }
 {
     if steps.len() < HEAD_WORDS {
         return false;
@@ -177,5 +154,5 @@ pub(crate) fn well_formed(
     if MOST_STEPS < count {
         return false;
     }
-    steps_formed(steps, count, first, offsets, faces_at)
+    steps_formed(steps, count, offsets, faces_at)
 }

@@ -1,9 +1,10 @@
 // What a step writes, and how it is taken off.
 ghost use Rattle.std.specs.Prelude.{◌≡◌, ℕ, ◌+◌, ◌*◌, ◌<◌, ◌≤◌, length};
+ghost use Rattle.fields.specs.Limits.{most_moves};
 ghost use Rattle.mesh.specs.Corners.{face_words};
 ghost use Rattle.mesh.specs.Base.{position_words};
 ghost use Rattle.progressive.specs.Indexed.{always, from, writes};
-ghost use Rattle.progressive.specs.StepTable.{coordinate, move_words, new_face_at, new_face_words, step_words};
+ghost use Rattle.progressive.specs.StepTable.{coordinate, new_face_at, new_face_words};
 ghost use Rattle.progressive.specs.Rules.{corner_index};
 ghost use Rattle.progressive.specs.Laying.{laid_faces, undone_faces};
 ghost use Rattle.progressive.specs.Inside.{FacesStep, with_record, with_records};
@@ -18,8 +19,7 @@ use fields::words::word;
 use mesh::faces::{ABSENT, CORNER_FIELDS, FACE_WORDS};
 
 fn write_corners(steps: &[u32], step: usize, value: u32, faces: &mut [u32], count: usize)
-    requires { (step + step_words + move_words * count ≤ length steps.now)
-        × ((i : ℕ) → i < count → corner_index steps.now step i < length faces.old) }
+    requires { (step ≤ length steps.now) × ((count ≤ most_moves) × ((i : ℕ) → i < count → corner_index steps.now step i < length faces.old)) }
     ensures { faces.new ≡ writes (corner_index steps.now step) (always value) faces.old count }
 {
     let mut moved: usize = 0;

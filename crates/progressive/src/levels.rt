@@ -1,11 +1,10 @@
 // Levels of detail: which one the present counts are, and where its steps stand in the table.
-ghost use Rattle.std.specs.Prelude.{◌≡◌, ◌+◌, ◌-◌, ◌*◌, ◌<◌, ◌≤◌, true};
+ghost use Rattle.std.specs.Prelude.{◌≡◌, ◌+◌, ◌*◌, ◌<◌, ◌≤◌, true};
 ghost use Rattle.progressive.specs.StepTable.{step_count, well_formed};
-ghost use Rattle.progressive.specs.Steps.{level};
 ghost use Rattle.progressive.specs.Inside.{Arrived, AtStep, Marked, MarkedBy, located_given, mark_steps, place_of};
 
 use crate::form::{HEAD_WORDS, MARK_STEPS, NEW_FACE_COUNT, next_step, well_formed};
-use crate::words::{number, number_within};
+use crate::words::number;
 use fields::limits::MOST_STEPS;
 use fields::numbers::{BAD_STEPS, COUNTS_DISAGREE};
 
@@ -68,7 +67,7 @@ fn pass_step(steps: &[u32], k: usize, at: StepSpot) -> StepSpot
 {
     StepSpot {
         offset: next_step(steps, at.offset),
-        faces: at.faces + number_within(steps, at.offset + NEW_FACE_COUNT),
+        faces: at.faces + number(steps, at.offset + NEW_FACE_COUNT),
     }
 }
 
@@ -92,7 +91,7 @@ pub(crate) fn mark_steps(steps: &[u32]) -> Marks
 {
     let mut offsets = [0u32; MARKS];
     let mut faces = [0u32; MARKS];
-    let formed = well_formed(steps, 0, &mut offsets, &mut faces);
+    let formed = well_formed(steps, &mut offsets, &mut faces);
     Marks {
         formed,
         offsets,
@@ -110,8 +109,8 @@ fn mark_before(count: usize, k: usize) -> usize
 }
 
 // Walks over the first k steps, from the last mark before the end.
-fn walk_to(steps: &[u32], first: usize, offsets: &[u32], faces_at: &[u32], k: usize) -> Walked
-    requires { Marked steps.now true first offsets.now faces_at.now × (k ≤ step_count steps.now) × (first ≤ k - 1) }
+fn walk_to(steps: &[u32], offsets: &[u32], faces_at: &[u32], k: usize) -> Walked
+    requires { Marked steps.now true offsets.now faces_at.now × (k ≤ step_count steps.now) }
     ensures { Arrived steps.now k result }
 {
     if k == 0 {
@@ -122,12 +121,12 @@ fn walk_to(steps: &[u32], first: usize, offsets: &[u32], faces_at: &[u32], k: us
             faces: base.faces,
         };
     }
-    let mark = mark_before(offsets.len(), k - 1 - first);
+    let mark = mark_before(offsets.len(), k - 1);
     let noted = StepSpot {
         offset: number(offsets, mark),
         faces: number(faces_at, mark),
     };
-    let last = walk_on(steps, first + MARK_STEPS * mark, noted, k - 1);
+    let last = walk_on(steps, MARK_STEPS * mark, noted, k - 1);
     let next = pass_step(steps, k - 1, last);
     Walked {
         next: next.offset,
@@ -140,13 +139,12 @@ fn walk_to(steps: &[u32], first: usize, offsets: &[u32], faces_at: &[u32], k: us
 pub(crate) fn locate(
     steps: &[u32],
     formed: bool,
-    first: usize,
     offsets: &[u32],
     faces_at: &[u32],
     faces: usize,
     positions: usize,
 ) -> Located
-    requires { Marked steps.now formed first offsets.now faces_at.now × (first ≤ level steps.now positions - 1) }
+    requires { Marked steps.now formed offsets.now faces_at.now }
     ensures { located_given result ≡ place_of steps.now faces positions }
 {
     if !formed {
@@ -160,7 +158,7 @@ pub(crate) fn locate(
     if number(steps, 2) < level {
         return Located::Refused(COUNTS_DISAGREE);
     }
-    let walked = walk_to(steps, first, offsets, faces_at, level);
+    let walked = walk_to(steps, offsets, faces_at, level);
     if walked.faces != faces {
         return Located::Refused(COUNTS_DISAGREE);
     }
@@ -171,24 +169,12 @@ pub(crate) fn locate(
     })
 }
 
-// The step below the level of so many positions; at the base the first.
-fn step_below(base: usize, positions: usize) -> usize
-    ensures { result ≡ positions - base - 1 }
-{
-    if base < positions {
-        positions - base - 1
-    } else {
-        0
-    }
-}
-
-// The level that has these counts, in a list that is judged for this one step: its only mark is the step below that level.
+// The level that has these counts, in a list that is judged for this one step: its only mark is the first step.
 pub(crate) fn locate_once(steps: &[u32], faces: usize, positions: usize) -> Located
     ensures { located_given result ≡ place_of steps.now faces positions }
 {
-    let first = step_below(number(steps, 0), positions);
     let mut offsets = [0u32; 1];
     let mut faces_at = [0u32; 1];
-    let formed = well_formed(steps, first, &mut offsets, &mut faces_at);
-    locate(steps, formed, first, &offsets, &faces_at, faces, positions)
+    let formed = well_formed(steps, &mut offsets, &mut faces_at);
+    locate(steps, formed, &offsets, &faces_at, faces, positions)
 }

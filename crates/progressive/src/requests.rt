@@ -41,14 +41,14 @@ fn step_in(
     positions: &mut [u32],
     counts: Counts,
 ) -> Stepped
-    requires { Marked steps.now formed 0 offsets.now faces_at.now }
+    requires { Marked steps.now formed offsets.now faces_at.now }
     ensures { reply_of result faces.new positions.new
         ≡ reply (asked_on steps.now shadings (mesh_of faces.old positions.old counts) (ask_in direction))
         (mesh_of faces.old positions.old counts) }
 {
     let f = counts.faces as usize;
     let r = counts.positions as usize;
-    let located = locate(steps, formed, 0, offsets, faces_at, f, r);
+    let located = locate(steps, formed, offsets, faces_at, f, r);
     if direction == 0 {
         return refine_located(steps, located, shadings, faces, positions, counts);
     }
@@ -67,7 +67,7 @@ fn step_on(
     positions: &mut [u32],
     progress: Progress,
 ) -> Progress
-    requires { Marked steps.now formed 0 offsets.now faces_at.now }
+    requires { Marked steps.now formed offsets.now faces_at.now }
     ensures { progress_of result faces.new positions.new
         ≡ walked_on steps.now shadings (ask_in direction ∷ []) (progress_of progress faces.old positions.old) }
 {

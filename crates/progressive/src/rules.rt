@@ -1,46 +1,48 @@
 // What the numbers of a step allow (14).
-ghost use Rattle.std.specs.Prelude.{◌≡◌, ◌+◌, ◌*◌, ◌<◌, ◌≤◌, true, ◌&&◌, length, ◌==◌, slice_index};
+ghost use Rattle.std.specs.Prelude.{◌≡◌, ◌+◌, ◌*◌, ◌≤◌, true, ◌&&◌, length, ◌==◌, slice_index};
 ghost use Rattle.fields.specs.All.{all};
-ghost use Rattle.progressive.specs.StepTable.{move_words, new_face_at, new_face_words, split_of, step_formed, step_words};
-ghost use Rattle.progressive.specs.Rules.{move_numbers, new_face_allowed, new_face_numbers, numbers_allowed, other_corner, split_triangle};
-ghost use Rattle.progressive.specs.Inside.{MoveNames, one_if_same, times_in};
+ghost use Rattle.progressive.specs.StepTable.{move_words, new_face_at, new_face_words, step_formed, step_words};
+ghost use Rattle.progressive.specs.Rules.{move_numbers, new_face_allowed, new_face_numbers, numbers_allowed, other_corner, other_position, split_and_other, split_triangle};
+ghost use Rattle.progressive.specs.Inside.{MoveNames};
 
 use crate::form::{MOVE_COUNT, MOVE_WORDS, NEW_FACE_COUNT, NEW_FACE_WORDS, STEP_WORDS};
-use crate::words::{number, number_within};
+use crate::words::number;
 use fields::words::word;
 
-// 1 if the two are the same, else 0.
-fn one_if_same(a: usize, b: usize) -> usize
-    ensures { (result ≡ one_if_same a b) × (result ≤ 1) }
+// A position below r other than s.
+fn other_position(r: usize, s: usize, p: usize) -> bool
+    ensures { result ≡ other_position r s p }
 {
-    if a == b { 1 } else { 0 }
+    if p < r { p != s } else { false }
 }
 
-// How many of the three are the position p.
-fn times(p: usize, a: usize, b: usize, c: usize) -> usize
-    ensures { result ≡ times_in p a b c }
+// The split position s and another, in either order.
+fn split_and_other(r: usize, s: usize, a: usize, b: usize) -> bool
+    ensures { result ≡ split_and_other r s a b }
 {
-    one_if_same(a, p) + one_if_same(b, p) + one_if_same(c, p)
+    if a == s {
+        return other_position(r, s, b);
+    }
+    if b == s {
+        return other_position(r, s, a);
+    }
+    false
 }
 
-// The new position r, the split position s and another, in any order. They are counted, since their order can't be foreseen.
+// The new position r, the split position s and another, in any order.
 fn split_triangle(r: usize, s: usize, a: usize, b: usize, c: usize) -> bool
-    requires { s < r }
     ensures { result ≡ split_triangle r s a b c }
 {
-    if r < a {
-        return false;
+    if a == r {
+        return split_and_other(r, s, b, c);
     }
-    if r < b {
-        return false;
+    if b == r {
+        return split_and_other(r, s, a, c);
     }
-    if r < c {
-        return false;
+    if c == r {
+        return split_and_other(r, s, a, b);
     }
-    if times(r, a, b, c) != 1 {
-        return false;
-    }
-    times(s, a, b, c) == 1
+    false
 }
 
 // The move at an index of the table names this corner.
@@ -98,23 +100,23 @@ fn moves_allowed(steps: &[u32], step: usize, faces: usize, count: usize) -> bool
 
 // The new face that is described at an index of the table.
 fn new_face_allowed(steps: &[u32], at: usize, shadings: usize, r: usize, s: usize) -> bool
-    requires { (at + new_face_words ≤ length steps.now) × (s < r) }
+    requires { at + new_face_words ≤ length steps.now }
     ensures { result ≡ new_face_allowed steps.now at shadings r s }
 {
-    if shadings <= number_within(steps, at) {
+    if shadings <= number(steps, at) {
         return false;
     }
     split_triangle(
         r,
         s,
-        number_within(steps, at + 1),
-        number_within(steps, at + 2),
-        number_within(steps, at + 3),
+        number(steps, at + 1),
+        number(steps, at + 2),
+        number(steps, at + 3),
     )
 }
 
 fn new_faces_allowed(steps: &[u32], step: usize, shadings: usize, r: usize, count: usize) -> bool
-    requires { (new_face_at steps.now step count ≤ length steps.now) × (step ≤ length steps.now) × (split_of steps.now step < r) }
+    requires { (new_face_at steps.now step count ≤ length steps.now) × (step ≤ length steps.now) }
     ensures { result ≡ all (new_face_numbers steps.now step shadings r) count }
 {
     let s = number(steps, step);

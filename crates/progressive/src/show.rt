@@ -1,9 +1,10 @@
 // What the mesh tables show of a step (14 for its corners, 18 for its records).
 ghost use Rattle.std.specs.Prelude.{◌≡◌, ◌+◌, ◌*◌, ◌≤◌, true, length};
+ghost use Rattle.fields.specs.Limits.{most_moves};
 ghost use Rattle.mesh.specs.Corners.{corner_fields, face_words};
 ghost use Rattle.mesh.specs.Base.{position_words};
 ghost use Rattle.progressive.specs.Indexed.{always, from, shows};
-ghost use Rattle.progressive.specs.StepTable.{coordinate, move_words, new_face_at, new_face_count, new_face_words, step_formed, step_words};
+ghost use Rattle.progressive.specs.StepTable.{coordinate, new_face_at, new_face_count, new_face_words, step_formed};
 ghost use Rattle.progressive.specs.Rules.{corner_index};
 ghost use Rattle.progressive.specs.Laying.{clear_after, new_face_number, shows_step};
 ghost use Rattle.progressive.specs.Inside.{corner_shown, record_shown};
@@ -32,7 +33,7 @@ pub(crate) fn corners_show(
     faces: &[u32],
     count: usize,
 ) -> bool
-    requires { step + step_words + move_words * count ≤ length steps.now }
+    requires { (step ≤ length steps.now) × (count ≤ most_moves) }
     ensures { result ≡ shows (corner_index steps.now step) (always value) faces.now count }
 {
     let mut i: usize = 0;

@@ -1,81 +1,9 @@
--- The match is a tree of comparisons: numbers told one by one, and ranges of so many numbers from one on but for those. The definition is
--- computed on each.
-use Prim.Native.Nat.{ℕ, ◌+◌, ◌≤◌, ◌<◌}
-use mathlib.Core.List.{List, [], ◌∷◌}
-use mathlib.Core.Bool.{true}
-use mathlib.Core.Path.{◌≡◌, refl}
-use native.Mathlib.Omega.{arith}
+-- The table is the list of the classes of 0 to 255, which antt computes.
+use borrow.Author.Rules.{rules}
 use Rattle.blocks.specs.Kind.{class_of}
-use Rattle.blocks.proofs.Members.{OneOf, none_of, neither_of, all_are, between, value_of}
+use Rattle.fields.proofs.Values.{value_at}
 use Rattle.blocks.proofs.kind.class_of.Goals as goal
 
--- told one by one
-abbrev single : List ℕ
-single = 0x12 ∷ 0x14 ∷ 0x16 ∷ 0x31 ∷ 0x15 ∷ 0x5C ∷ []
-
--- one of n numbers from `low` on, all of the class v, that is none of those told one by one
-ranged : (last v low n : ℕ) → (OneOf last 0x12 (0x14 ∷ 0x16 ∷ 0x31 ∷ []) → ⊥) → (OneOf last 0x15 (0x5C ∷ []) → ⊥)
-    → low ≤ last → last < low + n → all_are class_of v single low n ≡ true → v ≡ class_of last
-ranged last v low n a b =
-    between class_of v single low n last
-    (neither_of last (0x12 ∷ 0x14 ∷ 0x16 ∷ 0x31 ∷ []) (0x15 ∷ 0x5C ∷ []) (none_of last 0x12 (0x14 ∷ 0x16 ∷ 0x31 ∷ []) a) (none_of last 0x15 (0x5C ∷ []) b))
-
-pub returns-in_default : goal.returns-in_default
+pub returns : goal.returns
 unfolding class_of
-returns-in_default c = ranged c.args.last 0 0x00 33 c.in_default.in_default-own.rest.0.1 c.in_default.in_default-own.rest.1 (omega arith) (omega arith) refl
-
-pub returns-in_default-2 : goal.returns-in_default-2
-unfolding class_of
-returns-in_default-2 c = ranged c.args.last 0 0x25 17 c.in_default.in_default-own.rest.0.1 c.in_default.in_default-own.rest.1 (omega arith) (omega arith) refl
-
-pub returns-in_default-3 : goal.returns-in_default-3
-unfolding class_of
-returns-in_default-3 c = ranged c.args.last 0 0x38 3 c.in_default.in_default-own.rest.0.1 c.in_default.in_default-own.rest.1 (omega arith) (omega arith) refl
-
-pub returns-in_default-4 : goal.returns-in_default-4
-unfolding class_of
-returns-in_default-4 c = ranged c.args.last 0 0x3D 1 c.in_default.in_default-own.rest.0.1 c.in_default.in_default-own.rest.1 (omega arith) (omega arith) refl
-
-pub returns-in_default-5 : goal.returns-in_default-5
-unfolding class_of
-returns-in_default-5 c = ranged c.args.last 0 0x40 1 c.in_default.in_default-own.rest.0.1 c.in_default.in_default-own.rest.1 (omega arith) (omega arith) refl
-
-pub returns-in_default-6 : goal.returns-in_default-6
-unfolding class_of
-returns-in_default-6 c = ranged c.args.last 0 0x47 10 c.in_default.in_default-own.rest.0.1 c.in_default.in_default-own.rest.1 (omega arith) (omega arith) refl
-
-pub returns-in_default-7 : goal.returns-in_default-7
-unfolding class_of
-returns-in_default-7 c = ranged c.args.last 0 0x57 169 c.in_default.in_default-own.rest.0.1 c.in_default.in_default-own.rest.1 (omega arith) (omega arith) refl
-
-pub returns-in-21 : goal.returns-in-21
-unfolding class_of
-returns-in-21 c = value_of class_of 2 c.args.last 0x15 (0x5C ∷ []) c.in-21.is refl
-
-pub returns-in-21-2 : goal.returns-in-21-2
-unfolding class_of
-returns-in-21-2 c = ranged c.args.last 2 0x3B 2 c.in-21.in_default-own.rest.0.1 c.in-21.in_default-own.rest.1 (omega arith) (omega arith) refl
-
-pub returns-in-21-3 : goal.returns-in-21-3
-unfolding class_of
-returns-in-21-3 c = ranged c.args.last 2 0x3E 2 c.in-21.in_default-own.rest.0.1 c.in-21.in_default-own.rest.1 (omega arith) (omega arith) refl
-
-pub returns-in-18 : goal.returns-in-18
-unfolding class_of
-returns-in-18 c = value_of class_of 1 c.args.last 0x12 (0x14 ∷ 0x16 ∷ 0x31 ∷ []) c.in-18.in-18-own.keys1 refl
-
-pub returns-in-18-2 : goal.returns-in-18-2
-unfolding class_of
-returns-in-18-2 c = ranged c.args.last 1 0x21 4 c.in-18.in_default-own.rest.0.1 c.in-18.in_default-own.rest.1 (omega arith) (omega arith) refl
-
-pub returns-in-18-3 : goal.returns-in-18-3
-unfolding class_of
-returns-in-18-3 c = ranged c.args.last 1 0x36 2 c.in-18.in_default-own.rest.0.1 c.in-18.in_default-own.rest.1 (omega arith) (omega arith) refl
-
-pub returns-in-18-4 : goal.returns-in-18-4
-unfolding class_of
-returns-in-18-4 c = ranged c.args.last 1 0x41 6 c.in-18.in_default-own.rest.0.1 c.in-18.in_default-own.rest.1 (omega arith) (omega arith) refl
-
-pub returns-in-18-5 : goal.returns-in-18-5
-unfolding class_of
-returns-in-18-5 c = ranged c.args.last 1 0x51 6 c.in-18.in_default-own.rest.0.1 c.in-18.in_default-own.rest.1 (omega arith) (omega arith) refl
+returns c = value_at class_of 256 c.args.last (search rules)

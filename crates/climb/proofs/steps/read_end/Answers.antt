@@ -1,14 +1,9 @@
 -- The last line, and the text's end.
-use borrow.Author.Rules.{rules}
 use Rattle.climb.specs.Climb.{end_form}
-use Rattle.climb.specs.Inside.{is_word, rules_from}
+use Rattle.climb.specs.Inside.{rules_from}
 use Rattle.climb.proofs.Climbs.{end_bad, end_done, end_more}
 use Rattle.climb.proofs.Lines.{row_refused, row_told}
 use Rattle.climb.proofs.steps.read_end.Goals as goal
-
-pub read_row-requires : goal.read_row-requires
-unfolding is_word
-read_row-requires c = search rules
 
 pub returns-in_default : goal.returns-in_default
 unfolding rules_from

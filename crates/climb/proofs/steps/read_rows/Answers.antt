@@ -3,12 +3,11 @@ use Prim.{tt}
 use mathlib.Core.Path.{◌∙◌, ap, refl, sym}
 use native.Mathlib.Numerals.{unary_clauses}
 use native.Mathlib.Omega.{arith}
-use borrow.Author.Rules.{rules}
 use lib.ListN.{length}
 use lib.Seq.{length-sets}
 use Rattle.climb.specs.Climb.{row_taken}
 use Rattle.climb.specs.Inside.{form_of}
-use Rattle.climb.proofs.Lines.{row_from_lem, row_refused, row_told, rules_length, word-ends, word-within}
+use Rattle.climb.proofs.Lines.{row_refused, row_told, rules_length}
 use Rattle.climb.proofs.Rows.{items_bad, items_more, items_none, items_over, row_taken_lem}
 use Rattle.climb.proofs.steps.read_rows.Goals as goal
 
@@ -25,14 +24,6 @@ returns-then-not-starts_with c =
     let e = sym c.starts_with.ensures ∙ c.if-not-starts_with.true in
     record { table_after = sym (l.invariant.5 ∙ items_none a.word.now (row_taken (form_of a.word.now a.rules.now a.width)) a.text.now a.most l.count l.table l.to l.line l.at e); taken_within = omega arith }
 
-pub read_fields-requires : goal.read_fields-requires
-read_fields-requires c =
-    let l = c.loop-count in
-    let a = c.args in
-    let e = sym c.starts_with.ensures ∙ c.if-not-starts_with.false in
-    let form = form_of a.word.now a.rules.now a.width in
-    record { from_in_bounds = (word-within a.text.now form l.at e l.invariant.1, word-ends a.text.now form l.at e); count_bound = search rules }
-
 pub shape_of-table-in_default : goal.shape_of-table-in_default
 shape_of-table-in_default c = c.table-1.given ∙ c.loop-count.invariant.4
 
@@ -40,20 +31,18 @@ pub returns-in_default : goal.returns-in_default
 returns-in_default c =
     let l = c.loop-count in
     let a = c.args in
-    let r = c.read_fields in
+    let r = c.read_row in
     let e = sym c.starts_with.ensures ∙ c.if-not-starts_with.false in
-    let form = form_of a.word.now a.rules.now a.width in
-    let f = row_refused a.text.now form l.line l.at l.to l.table _ r.result (r.ensures.fields_read l.line ∙ row_from_lem a.text.now form l.at e l.to l.line l.table) c.in_default.is in
+    let f = row_refused a.text.now (form_of a.word.now a.rules.now a.width) l.line l.at l.to l.table _ r.result (r.ensures.row_read l.line) c.in_default.is in
     record { table_after = sym (l.invariant.5 ∙ items_bad a.word.now (row_taken (form_of a.word.now a.rules.now a.width)) a.text.now a.most l.count l.table l.to l.line l.at e l.line c.loop-count-test.true (rw f)); taken_within = tt }
 
 pub loop-count-preserved : goal.loop-count-preserved
 loop-count-preserved c =
     let l = c.loop-count in
     let a = c.args in
-    let r = c.read_fields in
+    let r = c.read_row in
     let e = sym c.starts_with.ensures ∙ c.if-not-starts_with.false in
-    let form = form_of a.word.now a.rules.now a.width in
-    let f = row_told a.text.now form l.line l.at l.to l.table _ r.result (r.ensures.fields_read l.line ∙ row_from_lem a.text.now form l.at e l.to l.line l.table) _ c.in-Next.is in
+    let f = row_told a.text.now (form_of a.word.now a.rules.now a.width) l.line l.at l.to l.table _ r.result (r.ensures.row_read l.line) _ c.in-Next.is in
     let w = rw c.in-Next.is at r.ensures.row_within in (
       omega arith,
       w,

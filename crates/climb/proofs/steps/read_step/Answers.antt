@@ -2,13 +2,12 @@
 use Prim.{tt}
 use Prim.Native.Nat.{ℕ, ◌+◌}
 use mathlib.Core.List.{List}
-use mathlib.Core.Path.{◌∙◌, ap, refl}
+use mathlib.Core.Path.{◌∙◌, ap}
 use native.Mathlib.Omega.{arith}
-use borrow.Author.Rules.{rules}
 use lib.ListN.{drop, set}
 use Rattle.fields.specs.Limits.{most_moves, most_new_faces}
 use Rattle.climb.specs.Climb.{face_form, move_form, rows_from, split_form}
-use Rattle.climb.specs.Inside.{is_word, rules_from}
+use Rattle.climb.specs.Inside.{rules_from}
 use Rattle.climb.proofs.Lines.{RowTold, row_refused, row_told}
 use Rattle.climb.proofs.Rows.{TakenTold, step_done, step_unfaced, step_unmoved, step_unsplit, taken_refused, taken_told}
 use Rattle.climb.proofs.steps.read_step.Goals as goal
@@ -45,10 +44,6 @@ faces-of c =
     let r = c.read_rows-in-Read in
     taken_told a.text.now _ _ c.in-Read.second.to _ r.result r.ensures.table_after _ _ c.in-Read-read_rows.is
 
-pub read_row-requires : goal.read_row-requires
-unfolding is_word
-read_row-requires c = search rules
-
 pub returns-in_default : goal.returns-in_default
 unfolding rules_from
 returns-in_default c =
@@ -60,16 +55,14 @@ returns-in_default c =
     }
 
 pub read_rows-requires : goal.read_rows-requires
-unfolding is_word
 read_rows-requires c =
     let w = rw c.in-Next.is at c.read_row.ensures.row_within in
-    record { width_bound = (omega arith, omega arith, omega arith, (w, omega (arith, c.requires), omega (arith, c.requires))); word_value = refl }
+    (omega arith, omega arith, omega arith, (w, omega (arith, c.requires), omega (arith, c.requires)))
 
 pub read_rows-requires-in-Read : goal.read_rows-requires-in-Read
-unfolding is_word
 read_rows-requires-in-Read c =
     let w = rw c.in-Read.is at c.read_rows.ensures.taken_within in
-    record { width_bound = (omega arith, omega arith, omega arith, (w.0, omega (arith, w.1, c.requires), omega (arith, w.2, c.requires))); word_value = refl }
+    (omega arith, omega arith, omega arith, (w.0, omega (arith, w.1, c.requires), omega (arith, w.2, c.requires)))
 
 pub overflow_add-to : goal.overflow_add-to
 overflow_add-to c = omega (arith, c.requires)

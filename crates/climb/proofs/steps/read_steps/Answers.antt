@@ -3,20 +3,14 @@ use Prim.{tt}
 use mathlib.Core.Path.{◌∙◌, ap, refl, sym}
 use native.Mathlib.Numerals.{unary_clauses}
 use native.Mathlib.Omega.{arith}
-use borrow.Author.Rules.{rules}
 use lib.ListN.{drop, length}
 use lib.Seq.{length-sets}
 use Rattle.climb.specs.Climb.{split_form, step_from}
-use Rattle.climb.specs.Inside.{is_word}
 use Rattle.climb.proofs.Rows.{items_bad, items_more, items_none, items_over, taken_refused, taken_told}
 use Rattle.climb.proofs.steps.read_steps.Goals as goal
 
 pub loop-count-init : goal.loop-count-init
 loop-count-init c = (omega arith, omega (arith, c.requires), omega (arith, c.requires), omega (arith, c.requires), refl, simp unary_clauses)
-
-pub starts_with-requires : goal.starts_with-requires
-unfolding is_word
-starts_with-requires c = search rules
 
 pub shape_of-table-then-not-starts_with : goal.shape_of-table-then-not-starts_with
 shape_of-table-then-not-starts_with c = c.loop-count.invariant.4
@@ -58,10 +52,6 @@ loop-count-preserved c =
       ap length f.stored_words ∙ simp length-sets l.invariant.4,
       l.invariant.5 ∙ items_more split_form.word step_from a.text.now a.most l.count l.table l.to l.line l.at e _ _ _ c.loop-count-test.true f,
     )
-
-pub starts_with-requires-2 : goal.starts_with-requires-2
-unfolding is_word
-starts_with-requires-2 c = search rules
 
 pub shape_of-table-then-starts_with : goal.shape_of-table-then-starts_with
 shape_of-table-then-starts_with c = c.loop-count.invariant.4

@@ -1,10 +1,9 @@
--- The last of the sixteen bits is left out.
-use Rattle.coder.proofs.Streams.{bit_binary}
-use Rattle.coder.proofs.Windows.{word_half}
-use Rattle.coder.specs.Bytes.{bit_at}
+-- Three bytes hold the fifteen bits, wherever in its byte the first of them stands; doubled, they are turned round as sixteen.
+use Rattle.coder.proofs.Windows.{window}
+use Rattle.std.proofs.Common.{arith}
 use Rattle.coder.proofs.bits.word_at.Goals as goal
 
 pub returns : goal.returns
 returns c =
-    let a = c.args in
-    rw c.bits_at.ensures (word_half (bit_at a.bytes.now) a.from 15 (bit_binary a.bytes.now))
+    rw (c.reversed_word.ensures.value, c.power.ensures.value, c.three_at-three.ensures.value)
+    (window _ (λ i. omega (arith, c.type_inv.bytes i)) c.args.from)

@@ -17,7 +17,7 @@ pub loop-index-preserved : goal.loop-index-preserved
 loop-index-preserved c =
     let l = c.loop-index in
     rw c.wide-frequency.ensures.0
-    (symbol_more _ l.index l.rest (search rules) (search rules) ∙ l.invariant.0, omega (arith, sum_more c.args.h.now l.index (search rules)), search rules)
+    (symbol_more _ l.index l.rest (search rules) (search rules) ∙ l.invariant.0, omega (arith, sum_more c.args.h.now l.index (search rules)), search rules, search rules)
 
 pub returns : goal.returns
 returns c =

@@ -1,13 +1,19 @@
--- The sum is taken after escape is raised.
-use Rattle.coder.specs.Histogram.{thinned_by}
-use Rattle.std.proofs.Common.{le-leb}
+-- A halved frequency is within the total, so one more fits.
+use Rattle.coder.proofs.Weights.{halved_half, weight_le}
+use Rattle.coder.specs.Histogram.{halve, sum, thinned}
+use Rattle.std.proofs.Common.{map, arith, rules, le-leb}
 use borrow.Author.Tests.{lt-leb}
 use Rattle.coder.proofs.histogram.thin.Goals as goal
 
-pub returns-then-total-lt-LARGEST_TOTAL : goal.returns-then-total-lt-LARGEST_TOTAL
-unfolding thinned_by
-returns-then-total-lt-LARGEST_TOTAL c = rw (lt-leb 0x1FFF c.args.total c.if-total-lt-LARGEST_TOTAL.true)
+pub overflow_add-h : goal.overflow_add-h
+overflow_add-h c =
+    let l = c.args.h.now in
+    rw c.halve_all.ensures (omega (arith, weight_le (map halve l) 0, halved_half l))
 
-pub returns : goal.returns
-unfolding thinned_by
-returns c = rw (c.sums_of-sums.ensures.0, c.raise_at.ensures, c.halve_all.ensures, le-leb 0x1FFF c.args.total c.if-total-lt-LARGEST_TOTAL.false)
+pub returns-then-total : goal.returns-then-total
+unfolding thinned
+returns-then-total c = rw (c.halve_all.ensures, le-leb 0x1FFF (sum c.args.h.now) (search rules))
+
+pub returns-else-total : goal.returns-else-total
+unfolding thinned
+returns-else-total c = rw (lt-leb 0x1FFF (sum c.args.h.now) (search rules))

@@ -1,15 +1,8 @@
--- The faces start after the words of the pools.
-use Rattle.mesh.proofs.Bases.{filled_read, filled_refused}
+-- The faces can be read, and zeros follow them.
+use Rattle.mesh.proofs.Bases.{faces_filled}
 use Rattle.mesh.proofs.base.fill_faces.Goals as goal
 
-pub returns-in-Refused : goal.returns-in-Refused
-returns-in-Refused c =
+pub returns : goal.returns
+returns c =
     let a = c.args in
-    let p = c.decode_faces in
-    filled_refused a.s.now a.declaration a.counts a.at c.words_before.result c.words_before.ensures.0 p.result a.table.now _ p.ensures c.in-Refused.is
-
-pub returns-in-Read : goal.returns-in-Read
-returns-in-Read c =
-    let a = c.args in
-    let p = c.decode_faces in
-    filled_read a.s.now a.declaration a.counts a.at c.words_before.result c.words_before.ensures.0 p.result a.table.now _ p.ensures c.in-Read.is
+    faces_filled a.s.now a.declaration a.counts a.at c.read_faces.result a.table.now _ _ c.words_before.result c.words_before.ensures.0 c.requires.faces_fit c.read_faces.ensures c.clear_from.ensures

@@ -1,12 +1,16 @@
 -- A field that the face has is read in its range; another is absent.
-use native.Mathlib.Omega.{arith}
-use Rattle.mesh.proofs.LaneNumbers.{field_here}
+use mathlib.Core.Path.{◌∙◌, ap, sym}
+use Rattle.mesh.specs.Faces.{coded_number, field_from}
+use Rattle.mesh.proofs.Numbers.{read_inverted, static_inverted, static_judged}
 use Rattle.mesh.proofs.faces.take_field.Goals as goal
 
-pub returns-then-here : goal.returns-then-here
-returns-then-here c = let a = c.args in field_here a.here a.range a.input.now a.lane c.take_static.result c.if-here.true c.take_static.ensures
+pub returns-then-is_present : goal.returns-then-is_present
+unfolding field_from
+returns-then-is_present c =
+    let a = c.args in
+    let e = rw c.range_of.ensures at c.take_static.ensures ∙ static_judged a.input.now a.state c.requires _ in
+    record { result_value = simp (sym c.is_present.ensures ∙ c.if-is_present.true) (ap coded_number e); read_inverted = read_inverted a.input.now c.take_static.result _ e (static_inverted a.input.now a.state c.requires _) }
 
-pub returns-else-here : goal.returns-else-here
-returns-else-here c =
-    let r = c.requires.0 in
-    (rw c.if-here.false, (record { tracks = r.tracks; near = omega arith; kept = omega arith }, r.within))
+pub returns-else-is_present : goal.returns-else-is_present
+unfolding field_from
+returns-else-is_present c = record { result_value = simp (sym c.is_present.ensures ∙ c.if-is_present.false); read_inverted = c.requires }

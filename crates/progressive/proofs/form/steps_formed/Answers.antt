@@ -1,7 +1,7 @@
 -- The invariant: the walk over the table stands at step k, all steps before it are formed, and the marks among them are noted.
-use Rattle.std.proofs.Common.{◌+◌, sym, ◌∙◌, arith}
 use mathlib.Core.Bool.{false≢true}
-use Rattle.progressive.proofs.Formed.{formed, walk_ends, walk_fails, walk_few, walk_on, walk_short, walk_starts}
+use Rattle.std.proofs.Common.{◌+◌, arith}
+use Rattle.progressive.proofs.Formed.{walk_ends, walk_fails, walk_few, walk_on, walk_short, walk_starts}
 use Rattle.progressive.proofs.Marking.{Noting, noting_done, noting_more, noting_none}
 use Rattle.progressive.proofs.form.steps_formed.Goals as goal
 use Rattle.progressive.proofs.form.steps_formed.Goals.{After-slice_known-in-loop-k-2-1}
@@ -9,7 +9,7 @@ use Rattle.progressive.proofs.form.steps_formed.Goals.{After-slice_known-in-loop
 -- step k is noted too, if it is a mark
 noting-of : (c : After-slice_known-in-loop-k-2-1)
     → (let a = c.args in
-    Noting a.steps.now a.first a.offsets.now a.faces_at.now c.note_step.new.offsets c.note_step.new.faces_at (c.loop-k.k + 1))
+    Noting a.steps.now a.offsets.now a.faces_at.now c.note_step.new.offsets c.note_step.new.faces_at (c.loop-k.k + 1))
 noting-of c =
     let inv = c.loop-k.invariant in
     noting_more c.args.steps.now inv.1 inv.0.at inv.0.counted
@@ -62,9 +62,7 @@ overflow_add-faces c =
     )
 
 pub next_step-step-requires : goal.next_step-step-requires
-next_step-step-requires c =
-    let judged = c.step_formed in
-    (formed c.args.steps.now c.loop-k.step (sym judged.ensures ∙ c.if-not-step_formed.false)).head
+next_step-step-requires c = c.loop-k.invariant.0.within
 
 pub overflow_add-k : goal.overflow_add-k
 overflow_add-k c = omega (arith, c.loop-k-test.true)

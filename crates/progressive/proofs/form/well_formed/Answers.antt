@@ -7,24 +7,24 @@ use Rattle.progressive.proofs.form.well_formed.Goals as goal
 pub returns-then-steps-lt-HEAD_WORDS : goal.returns-then-steps-lt-HEAD_WORDS
 returns-then-steps-lt-HEAD_WORDS c =
     let a = c.args in
-    unmarked a.steps.now a.first _ _ (λ e. omega (arith, formed_table a.steps.now e, c.if-steps-lt-HEAD_WORDS.true)) c.requires.0 c.requires.1
+    unmarked a.steps.now _ _ (λ e. omega (arith, formed_table a.steps.now e, c.if-steps-lt-HEAD_WORDS.true)) c.requires.0 c.requires.1
 
 pub returns-then-number-gt-LARGEST_COUNT : goal.returns-then-number-gt-LARGEST_COUNT
 returns-then-number-gt-LARGEST_COUNT c =
     let a = c.args in
-    unmarked a.steps.now a.first _ _ (λ e. omega (arith, formed_table a.steps.now e, c.if-number-gt-LARGEST_COUNT.true, c.number.ensures.0))
+    unmarked a.steps.now _ _ (λ e. omega (arith, formed_table a.steps.now e, c.if-number-gt-LARGEST_COUNT.true, c.number.ensures.0))
     c.requires.0 c.requires.1
 
 pub returns-then-number-gt-LARGEST_COUNT-2 : goal.returns-then-number-gt-LARGEST_COUNT-2
 returns-then-number-gt-LARGEST_COUNT-2 c =
     let a = c.args in
-    unmarked a.steps.now a.first _ _ (λ e. omega (arith, formed_table a.steps.now e, c.if-number-gt-LARGEST_COUNT-2.true, c.number-2.ensures.0))
+    unmarked a.steps.now _ _ (λ e. omega (arith, formed_table a.steps.now e, c.if-number-gt-LARGEST_COUNT-2.true, c.number-2.ensures.0))
     c.requires.0 c.requires.1
 
 pub returns-then-count-gt-MOST_STEPS : goal.returns-then-count-gt-MOST_STEPS
 returns-then-count-gt-MOST_STEPS c =
     let a = c.args in
-    unmarked a.steps.now a.first _ _ (λ e. omega (arith, formed_table a.steps.now e, c.if-count-gt-MOST_STEPS.true, c.number-count.ensures.0))
+    unmarked a.steps.now _ _ (λ e. omega (arith, formed_table a.steps.now e, c.if-count-gt-MOST_STEPS.true, c.number-count.ensures.0))
     c.requires.0 c.requires.1
 
 pub steps_formed-requires : goal.steps_formed-requires

@@ -13,7 +13,7 @@ overflow_cast-r c = omega (arith, c.requires.few)
 pub write_corners-requires : goal.write_corners-requires
 write_corners-requires c =
     let step = formed c.args.steps.now c.args.step c.requires.formed in
-    (omega (arith, step.body, c.number-moves.ensures.0), corners_inside c.requires c.number-moves.ensures.0)
+    (omega (arith, step.head), (omega (arith, step.moves, c.number-moves.ensures.0), corners_inside c.requires c.number-moves.ensures.0))
 
 pub overflow_add-step-2 : goal.overflow_add-step-2
 overflow_add-step-2 c = omega (arith, (formed c.args.steps.now c.args.step c.requires.formed).head)

@@ -16,8 +16,11 @@ overflow_add-step-2 c = omega (arith, (formed c.args.steps.now c.args.step c.req
 pub write_corners-requires : goal.write_corners-requires
 write_corners-requires c =
     let step = formed c.args.steps.now c.args.step c.requires.formed in (
-      omega (arith, step.body, c.number-moves.ensures.0),
-      λ i h. omega (arith, corners_inside c.requires c.number-moves.ensures.0 i h, c.clear.auto.table),
+      omega (arith, step.head),
+      (
+        omega (arith, step.moves, c.number-moves.ensures.0),
+        λ i h. omega (arith, corners_inside c.requires c.number-moves.ensures.0 i h, c.clear.auto.table),
+      ),
     )
 
 pub shape_of-faces : goal.shape_of-faces

@@ -8,7 +8,7 @@ pub loop-moved-init : goal.loop-moved-init
 loop-moved-init c = (search rules, written_none)
 
 pub bounds-faces-at : goal.bounds-faces-at
-bounds-faces-at c = omega (arith, (corner-index c.args.steps.now c.args.step c.loop-moved.moved c.move_face.ensures.0 c.move_corner.ensures.0), c.requires.1 c.loop-moved.moved c.loop-moved-test.true)
+bounds-faces-at c = omega (arith, (corner-index c.args.steps.now c.args.step c.loop-moved.moved c.move_face.ensures.0 c.move_corner.ensures.0), c.requires.1.1 c.loop-moved.moved c.loop-moved-test.true)
 
 pub loop-moved-preserved : goal.loop-moved-preserved
 loop-moved-preserved c = (search rules, written_more c.loop-moved.invariant.1 (corner-index c.args.steps.now c.args.step c.loop-moved.moved c.move_face.ensures.0 c.move_corner.ensures.0) refl)

@@ -8,12 +8,12 @@ use Rattle.progressive.proofs.levels.locate.Goals.{Else-not-formed}
 
 -- past the first test the table has its form
 form_of : (c : Else-not-formed) → well_formed c.args.steps.now ≡ true
-form_of c = sym c.requires.0.judged ∙ c.if-not-formed.false
+form_of c = sym c.requires.judged ∙ c.if-not-formed.false
 
 pub returns-then-not-formed : goal.returns-then-not-formed
 returns-then-not-formed c =
     let a = c.args in
-    not_formed a.steps.now a.faces a.positions c.requires.0.judged (c.if-not-formed.true)
+    not_formed a.steps.now a.faces a.positions c.requires.judged (c.if-not-formed.true)
 
 pub returns-then-positions-base : goal.returns-then-positions-base
 returns-then-positions-base c =
@@ -28,11 +28,8 @@ returns-then-number-level c =
     (λ e. omega (arith, agreeing a.steps.now a.faces a.positions e, c.number-base.ensures.0, c.number.ensures.0))
 
 pub walk_to-walked-requires : goal.walk_to-walked-requires
-walk_to-walked-requires c = (
-  formed_marks c.requires.0 (c.if-not-formed.false),
-  omega (arith, c.number.ensures.0),
-  omega (arith, c.requires.1, c.number-base.ensures.0),
-)
+walk_to-walked-requires c =
+    (formed_marks c.requires (c.if-not-formed.false), omega (arith, c.number.ensures.0))
 
 pub returns-then-walked-faces : goal.returns-then-walked-faces
 returns-then-walked-faces c =

@@ -5,18 +5,15 @@ use Rattle.progressive.proofs.levels.pass_step.Goals as goal
 use Rattle.progressive.proofs.levels.pass_step.Goals.{Start}
 
 within_of : (c : Start) → Within c.args.steps.now c.args.at
-within_of c = within c.args.steps.now c.args.k c.requires.0 c.requires.1 c.requires.2
+within_of c = within c.args.steps.now c.args.k c.requires.0 (omega (arith, c.requires.1)) c.requires.2
 
 pub next_step-requires : goal.next_step-requires
-next_step-requires c = (within_of (goal.at.next_step-requires c).Start).head
-
-pub number_within-requires : goal.number_within-requires
-number_within-requires c = omega (arith, (within_of (goal.at.number_within-requires c).Start).head)
+next_step-requires c = (within_of (goal.at.next_step-requires c).Start).offset
 
 pub overflow_add-result : goal.overflow_add-result
-overflow_add-result c = omega (arith, (within_of (goal.at.overflow_add-result c).Start).few, c.number_within.ensures.1)
+overflow_add-result c = omega (arith, (within_of (goal.at.overflow_add-result c).Start).few, c.number.ensures.1)
 
 pub returns : goal.returns
 returns c =
     step_next c.args.steps.now c.args.k c.requires.2
-    c.next_step.ensures c.number_within.ensures.0
+    c.next_step.ensures c.number.ensures.0

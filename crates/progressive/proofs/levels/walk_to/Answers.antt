@@ -9,17 +9,14 @@ returns-then-k-eq0 c =
     let a = c.args in
     arrived_base a.steps.now a.k c.if-k-eq0.true c.first_step-base.ensures
 
-pub overflow_add-first : goal.overflow_add-first
-overflow_add-first c = omega (arith, c.mark_before-mark.ensures.1, c.requires.2)
-
 pub walk_on-last-requires : goal.walk_on-last-requires
 walk_on-last-requires c =
     let marked = c.requires.0 in
     let in_List = c.mark_before-mark.ensures in (
       form_of marked,
-      omega (arith, in_List.1, c.requires.2),
+      in_List.1,
       omega (arith, c.requires.1),
-      mark_at marked in_List.0 (omega (arith, in_List.1, c.requires.1, c.requires.2, c.if-k-eq0.false))
+      mark_at marked in_List.0 (omega (arith, in_List.1, c.requires.1, c.if-k-eq0.false))
           c.number.ensures.0 c.number-2.ensures.0,
     )
 

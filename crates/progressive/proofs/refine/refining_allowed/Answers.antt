@@ -14,7 +14,7 @@ pub overflow_add-step : goal.overflow_add-step
 overflow_add-step c = omega (arith, (formed c.args.steps.now c.args.step c.requires).head)
 
 pub corners_show-requires : goal.corners_show-requires
-corners_show-requires c = let step = formed c.args.steps.now c.args.step c.requires in omega (arith, step.body, c.number-2.ensures.0)
+corners_show-requires c = let step = formed c.args.steps.now c.args.step c.requires in omega (arith, step.head, step.moves, c.number-2.ensures.0)
 
 pub returns : goal.returns
 returns c =

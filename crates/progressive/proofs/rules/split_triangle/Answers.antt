@@ -1,35 +1,20 @@
--- Each test that fails refutes what the counts of a triangle tell; past them the count of the split position decides.
-use Rattle.std.proofs.Common.{◌≡◌, arith}
+-- By the first of the three that is the new position.
+use Rattle.std.proofs.Common.{eq-eqb, ne_eqb}
 use Rattle.progressive.specs.Rules.{split_triangle}
-use Rattle.progressive.specs.Inside.{times_in}
-use Rattle.progressive.proofs.Formed.{test_failed}
-use Rattle.progressive.proofs.Triangle.{old_decides, triangle_counted}
 use Rattle.progressive.proofs.rules.split_triangle.Goals as goal
 
-pub returns-then-r-a : goal.returns-then-r-a
-returns-then-r-a c =
-    let a = c.args in
-    test_failed (split_triangle a.r a.s a.a a.b a.c) (λ e. omega (arith, (triangle_counted a.r a.s a.a a.b a.c c.requires e).first, c.if-r-a.true))
+pub returns-then-a-r : goal.returns-then-a-r
+unfolding split_triangle
+returns-then-a-r c = simp (eq-eqb _ _ c.if-a-r.true) c.split_and_other.ensures
 
-pub returns-then-r-b : goal.returns-then-r-b
-returns-then-r-b c =
-    let a = c.args in
-    test_failed (split_triangle a.r a.s a.a a.b a.c) (λ e. omega (arith, (triangle_counted a.r a.s a.a a.b a.c c.requires e).second, c.if-r-b.true))
+pub returns-then-b-r : goal.returns-then-b-r
+unfolding split_triangle
+returns-then-b-r c = simp (ne_eqb _ _ c.if-a-r.false, eq-eqb _ _ c.if-b-r.true) c.split_and_other-then-b-r.ensures
 
-pub returns-then-r-c : goal.returns-then-r-c
-returns-then-r-c c =
-    let a = c.args in
-    test_failed (split_triangle a.r a.s a.a a.b a.c) (λ e. omega (arith, (triangle_counted a.r a.s a.a a.b a.c c.requires e).third, c.if-r-c.true))
-
-pub returns-then-times-ne1 : goal.returns-then-times-ne1
-returns-then-times-ne1 c =
-    let a = c.args in
-    test_failed (split_triangle a.r a.s a.a a.b a.c)
-    (λ e. omega (arith, (triangle_counted a.r a.s a.a a.b a.c c.requires e).new, c.times.ensures, c.if-times-ne1.true))
+pub returns-then-c-r : goal.returns-then-c-r
+unfolding split_triangle
+returns-then-c-r c = simp (ne_eqb _ _ c.if-a-r.false, ne_eqb _ _ c.if-b-r.false, eq-eqb _ _ c.if-c-r.true) c.split_and_other-then-c-r.ensures
 
 pub returns : goal.returns
-returns c =
-    let a = c.args in
-    let new : times_in a.r a.a a.b a.c ≡ 1 = omega (arith, c.times.ensures, c.if-times-ne1.false) in
-    old_decides a.r a.s a.a a.b a.c c.requires c.if-r-a.false c.if-r-b.false
-    c.if-r-c.false new c.times-2.ensures
+unfolding split_triangle
+returns c = simp (ne_eqb _ _ c.if-a-r.false, ne_eqb _ _ c.if-b-r.false, ne_eqb _ _ c.if-c-r.false)

@@ -8,7 +8,7 @@ pub overflow_add-step : goal.overflow_add-step
 overflow_add-step c = omega (arith, (formed c.args.steps.now c.args.step c.requires.0).head)
 
 pub corners_show-requires : goal.corners_show-requires
-corners_show-requires c = omega (arith, (formed c.args.steps.now c.args.step c.requires.0).body, c.number.ensures.0)
+corners_show-requires c = omega (arith, (formed c.args.steps.now c.args.step c.requires.0).head, (formed c.args.steps.now c.args.step c.requires.0).moves, c.number.ensures.0)
 
 pub returns-then-not-corners_show : goal.returns-then-not-corners_show
 returns-then-not-corners_show c = let a = c.args in

@@ -14,10 +14,10 @@ end_zero-requires c =
     let ok = end_writable a.buf.now a.self _ c.write_fault-fault.ensures c.if-fault-ne0.false in
     (ok.limits, record { small = ok.small; within = ok.holds })
 
-pub returns-then-self : goal.returns-then-self
-returns-then-self c =
+pub returns-then-compressed : goal.returns-then-compressed
+returns-then-compressed c =
     let a = c.args in
-    finish_zero a.buf.now a.self _ c.write_fault-fault.ensures c.if-fault-ne0.false _ c.if-self.true c.end_zero.ensures
+    finish_zero a.buf.now a.self _ c.write_fault-fault.ensures c.if-fault-ne0.false _ c.if-compressed.true c.end_zero.ensures
 
 pub end_low-requires : goal.end_low-requires
 end_low-requires c =
@@ -28,7 +28,7 @@ end_low-requires c =
 pub returns-then-start-ne0 : goal.returns-then-start-ne0
 returns-then-start-ne0 c =
     let a = c.args in
-    finish_low a.buf.now a.self _ c.write_fault-fault.ensures c.if-fault-ne0.false _ c.if-self.false c.if-start-ne0.true c.end_low.ensures
+    finish_low a.buf.now a.self _ c.write_fault-fault.ensures c.if-fault-ne0.false _ c.if-compressed.false c.if-start-ne0.true c.end_low.ensures
 
 pub end_low-requires-then-start-ne0-2 : goal.end_low-requires-then-start-ne0-2
 end_low-requires-then-start-ne0-2 c =
@@ -39,7 +39,7 @@ end_low-requires-then-start-ne0-2 c =
 pub returns-then-start-ne0-2 : goal.returns-then-start-ne0-2
 returns-then-start-ne0-2 c =
     let a = c.args in
-    finish_pending a.buf.now a.self _ c.write_fault-fault.ensures c.if-fault-ne0.false _ c.if-self.false c.if-start-ne0-2.true c.end_low-then-start-ne0-2.ensures
+    finish_pending a.buf.now a.self _ c.write_fault-fault.ensures c.if-fault-ne0.false _ c.if-compressed.false c.if-start-ne0-2.true c.end_low-then-start-ne0-2.ensures
 
 pub pad-requires : goal.pad-requires
 pad-requires c =
@@ -56,4 +56,4 @@ bytes_of-requires c =
 pub returns : goal.returns
 returns c =
     let a = c.args in
-    finish_none a.buf.now a.self _ c.write_fault-fault.ensures c.if-fault-ne0.false _ _ c.if-self.false c.if-start-ne0.false c.if-start-ne0-2.false c.bytes_of.ensures c.pad.ensures
+    finish_none a.buf.now a.self _ c.write_fault-fault.ensures c.if-fault-ne0.false _ _ c.if-compressed.false c.if-start-ne0.false c.if-start-ne0-2.false c.bytes_of.ensures c.pad.ensures
