@@ -7,8 +7,7 @@ use crate::steps::COUNT_WORDS;
 use fields::numbers::NO_ROOM;
 use progressive::requests::{Progress, StepRequest, step_all};
 
-// The walk before its first wish, refused with 12 where the result or the counts are too short. Neither is changed: they are lent as
-// `&mut` since the proof by hand of `oysterfold_steps` lends a `&mut` slice again only as one.
+// The walk before its first wish, refused with 12 where the result or the counts are too short. Neither is changed.
 fn begin(counts: &mut [u32], res: &mut [u64]) -> Progress
     ensures { (result ≡ start_in counts.old res.old)
         × ((counts.new ≡ counts.old) × (res.new ≡ res.old)) }
