@@ -120,7 +120,7 @@ fn random_tables(random: &mut Random, plan: &MeshPlan) -> [Lent<u32>; TABLES] {
     })
 }
 
-/// Zeros from the start of the face table on: none, those that the faces take, which are then decoded but once, or any number.
+/// Zeros from the start of the face table on: none, those that the faces take, or any number.
 fn clear_some(faces: &mut [u32], needed: usize, random: &mut Random) {
     let zeros = match random.below(3) {
         0 => 0,
