@@ -2,8 +2,7 @@
 
 To be run from the repository's root. Every public function has its row among the promises, which names an edit; every edit is named there
 under its crate, as kept where the gate tries it (must-fail/) and as tried where tools/try_edits does (tried/); every crate has an edit that
-the gate tries; and what the two documents name exists, an edit that the trace cites with a crate in that crate. A crate of exports has the
-rows of the functions that it calls.
+the gate tries; and what the two documents name exists, an edit that the trace cites with a crate in that crate.
 """
 
 import re
@@ -16,9 +15,6 @@ TRACE = Path("docs/TRACE.md")
 
 # The folder of an edit, by what the promises call it.
 FOLDERS = {"kept": "must-fail", "tried": "tried"}
-
-# A crate whose functions only call those of their name in another crate, and promise the same.
-CALLED = {"oysterfold_c": "oysterfold"}
 
 PUBLIC_FUNCTION = re.compile(r'^\s*pub (?:extern "C" )?fn (\w+)', re.MULTILINE)
 PUBLIC_MODULE = re.compile(r"^pub mod (\w+);", re.MULTILINE)
@@ -68,9 +64,8 @@ def judge_promises():
     promises = sections(PROMISES.read_text())
     for crate in sorted(path for path in CRATES.iterdir() if path.is_dir()):
         rows = promises.get(crate.name, [])
-        theirs = rows + promises.get(CALLED.get(crate.name), [])
         for name in sorted(public_functions(crate)):
-            if not any(named(row) for row in theirs if name in promised(row)):
+            if not any(named(row) for row in rows if name in promised(row)):
                 yield "%s: no row with an edit for the function %s of %s" % (PROMISES, name, crate.name)
         told = {edit for row in rows for edit in named(row)}
         for name, how in sorted(edits(crate) - told):
