@@ -11,7 +11,6 @@ use lib.Seq.{sets, sets-eq}
 use Rattle.fields.specs.Numbers.{truncated, over_limit, bad_header, no_room}
 use Rattle.fields.specs.Limits.{largest_file}
 use Rattle.fields.specs.Judged.{Judged, done, refused, buffer_after}
-use Rattle.fields.specs.declared.numbers.Refusal.{Refusal}
 use Rattle.fields.proofs.Judging.{value_before, refusal_before, passed, same_done}
 use Rattle.blocks.specs.Kind.{header_type}
 use Rattle.blocks.specs.Head.{head_size, data_size_at, head_at, extent_of, room_of, paddings_of}
@@ -26,8 +25,6 @@ use Rattle.blocks.specs.declared.header.Sizes.{Sizes}
 use Rattle.blocks.specs.declared.header.Version.{Version}
 use Rattle.blocks.specs.declared.tell.Row.{Row}
 use Rattle.blocks.specs.declared.tell.Told.{Told}
-use Rattle.blocks.specs.declared.walk.Walked.{Walked}
-use Rattle.blocks.specs.declared.walk.Walked.TheVariants.{Done, Refused}
 use Rattle.blocks.proofs.Fits.{chosen, extent_fits, room_within}
 use Rattle.blocks.proofs.Stores.{row_told, words_length}
 use Rattle.blocks.proofs.Turns.{Answered, answer_refused}
@@ -102,18 +99,18 @@ unfolding after_first
 after_first_lem s first lines table text table₁ text₁ row told₁ r n t x =
     row_told table text none_told lines (row_of 0 first.head 0) (walk_of levels (length s) s first.next false) ∙ rw (n, t, x, r)
 
-pub fits_more : (a b : ℕ) (r : Walked) → a ≤ b → ToldFits a r → ToldFits b r
-fits_more a b (Done told) h f = (omega (arith, f.0), omega (arith, f.1))
-fits_more a b (Refused e) h f = tt
+pub fits_more : (a b : ℕ) (j : Judged Told) → a ≤ b → ToldFits a j → ToldFits b j
+fits_more a b (done told) h f = (omega (arith, f.0), omega (arith, f.1))
+fits_more a b (refused n p) h f = tt
 
 pub file_after : (s : List ℕ) (first : First) → first_of s ≡ done first → file_of s ≡ after_first s first
 unfolding file_of
 file_after s first e = rw e
 
-pub file_refused : (s : List ℕ) (lines : Bool) (table text : List ℕ) (e : Refusal) → first_of s ≡ refused e.number e.place
-    → Answered (stored table text none_told lines (file_of s)) (Refused e) table text
+pub file_refused : (s : List ℕ) (lines : Bool) (table text : List ℕ) (n p : ℕ) → first_of s ≡ refused n p
+    → Answered (stored table text none_told lines (file_of s)) (refused n p) table text
 unfolding file_of
-file_refused s lines table text e q = answer_refused _ table text none_told lines e (rw q)
+file_refused s lines table text n p q = answer_refused _ table text none_told lines n p (rw q)
 
 -- what a whole file tells does not depend on the table and the text
 pub told_whole : (s : List ℕ) (lines : Bool) (table text : List ℕ) → answer_of (stored table text none_told lines (file_of s)) ≡ told_of lines s

@@ -10,7 +10,7 @@ use lib.ListN.{length, take}
 use lib.Seq.{length-take-le}
 use Rattle.fields.specs.Numbers.{truncated, bad_chain, over_limit}
 use Rattle.fields.specs.Limits.{largest_file}
-use Rattle.fields.specs.Judged.{Judged, done, refused, pick}
+use Rattle.fields.specs.Judged.{Judged, done, refused, on_done, pick}
 use Rattle.fields.specs.Field.{field_at}
 use Rattle.fields.specs.Name.{name_at}
 use Rattle.fields.proofs.Judging.{not_done, value_before, passed, field_within}
@@ -31,6 +31,12 @@ use Rattle.blocks.specs.declared.block.Block.{Block}
 pub chosen : {A : Type 0} (test : Bool) (j : Judged A) (n p : ℕ) (a : A) → pick test j (refused n p) ≡ done a → (test ≡ true) × (j ≡ done a)
 chosen true j n p a e = (refl, e)
 chosen false j n p a e = not_done e
+
+-- a test before what follows is a judgement before it
+pub stands : {A : Type 0} (test : Bool) (n p : ℕ) (next : Judged A)
+    → pick test next (refused n p) ≡ on_done (pick test (done (tt {0})) (refused n p)) (λ _. next)
+stands true n p next = refl
+stands false n p next = refl
 
 pub in_chain_done : {A : Type 0} (j : Judged A) (a : A) → in_chain j ≡ done a → j ≡ done a
 in_chain_done (done b) a e = e

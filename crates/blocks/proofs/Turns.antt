@@ -8,41 +8,38 @@ use lib.Dec.{eqb}
 use lib.ListN.{length, take}
 use lib.Seq.{sets}
 use Rattle.fields.specs.Numbers.{bad_chain}
-use Rattle.fields.specs.Judged.{done, refused, pick}
-use Rattle.fields.specs.declared.numbers.Refusal.{Refusal}
-use Rattle.fields.proofs.Judging.{not_done}
+use Rattle.fields.specs.Judged.{Judged, done, refused, pick}
 use Rattle.blocks.specs.Kind.{is_chain, is_continuation}
 use Rattle.blocks.specs.Head.{paddings_of}
 use Rattle.blocks.specs.Chain.{in_chain}
 use Rattle.blocks.specs.Block.{levels, block_at}
 use Rattle.blocks.specs.Walk.{Outcome, tells, ends, and_then, row_of, file_ends, blocks_of, inside_of, walk_of, in_chain_outcome}
 use Rattle.blocks.specs.Told.{row_width, row_words, all_of}
-use Rattle.blocks.specs.Inside.{bytes_of, told_with, Stored, stored, answer_of, walked_given, filled_of, ToldFits}
+use Rattle.blocks.specs.Inside.{bytes_of, told_with, Stored, stored, answer_of, filled_of, ToldFits}
 use Rattle.blocks.specs.declared.block.Block.{Block}
 use Rattle.blocks.specs.declared.tell.Row.{Row}
 use Rattle.blocks.specs.declared.tell.Told.{Told}
-use Rattle.blocks.specs.declared.walk.Walked.{Walked}
-use Rattle.blocks.specs.declared.walk.Walked.TheVariants.{Done, Refused}
+use Rattle.blocks.proofs.Fits.{in_chain_done}
 use Rattle.blocks.proofs.Lines.{bytes_short}
 use Rattle.blocks.proofs.Stores.{store_on, store_stop, row_told, ends_well, ends_refused, in_chain_answer}
 
 -- an answer with the table and the text as they then are is what was to be stored
-pub record Answered (q : Stored) (r : Walked) (table text : List ℕ) : Type 0 where
-  pub answer : walked_given r ≡ answer_of q
+pub record Answered (q : Stored) (j : Judged Told) (table text : List ℕ) : Type 0 where
+  pub answer : j ≡ answer_of q
   pub in_table : table ≡ q.table
   pub in_text : text ≡ q.text
 
-pub answer_done : (q : Stored) (table text : List ℕ) (told : Told) (lines : Bool) → q ≡ stored table text told lines (tells []) → Answered q (Done told) table text
+pub answer_done : (q : Stored) (table text : List ℕ) (told : Told) (lines : Bool) → q ≡ stored table text told lines (tells []) → Answered q (done told) table text
 unfolding answer_of stored all_of
 answer_done q table text told lines e =
     let b : told.blocks + 0 ≡ told.blocks = omega arith in
     let y : told.bytes + 0 ≡ told.bytes = omega arith in
     record { answer = rw (e, b, y); in_table = rw e; in_text = rw e }
 
-pub answer_refused : (q : Stored) (table text : List ℕ) (told : Told) (lines : Bool) (e : Refusal)
-    → q ≡ stored table text told lines (ends (refused e.number e.place)) → Answered q (Refused e) table text
+pub answer_refused : (q : Stored) (table text : List ℕ) (told : Told) (lines : Bool) (n p : ℕ)
+    → q ≡ stored table text told lines (ends (refused n p)) → Answered q (refused n p) table text
 unfolding answer_of stored all_of
-answer_refused q table text told lines r e = record { answer = rw e; in_table = rw e; in_text = rw e }
+answer_refused q table text told lines n p e = record { answer = rw e; in_table = rw e; in_text = rw e }
 
 -- what follows a block's contents: its paddings and the blocks after it
 abbrev pub rest_of : ℕ → ℕ → List ℕ → Block → Outcome
@@ -86,10 +83,10 @@ module _ (s : List ℕ) (remaining : ℕ) (lines : Bool) (table text : List ℕ)
   unfolding blocks_of
   last_end h = let l : left ≡ 0 = omega arith in rw l
 
-  pub all-walked : (r : Walked) → left ≤ 0 → walked_given r ≡ filled_of at (length s) told → Answered (still (walk_of remaining left s at continued)) r table text
+  pub all-walked : (j : Judged Told) → left ≤ 0 → j ≡ filled_of at (length s) told → Answered (still (walk_of remaining left s at continued)) j table text
   unfolding answer_of stored all_of
-  all-walked r h e = rw (last_end h) (by (eqb at (length s)) e) where
-    by : (t : Bool) → walked_given r ≡ pick t (done told) (refused bad_chain at) → Answered (still (pick t (tells []) (ends (refused bad_chain at)))) r table text
+  all-walked j h e = rw (last_end h) (by (eqb at (length s)) e) where
+    by : (t : Bool) → j ≡ pick t (done told) (refused bad_chain at) → Answered (still (pick t (tells []) (ends (refused bad_chain at)))) j table text
     by true e =
         let b : told.blocks + 0 ≡ told.blocks = omega arith in
         let y : told.bytes + 0 ≡ told.bytes = omega arith in
@@ -113,28 +110,30 @@ module _ (s : List ℕ) (remaining : ℕ) (lines : Bool) (b : Block) (table text
   no_contents zero e = refl
   no_contents (suc n) e = rw e
 
-  pub chain_walked : (r : Walked) (table' text' : List ℕ) (told' : Told) → 0 < remaining → is_chain b.kind ≡ true
-      → walked_given r ≡ answer_of (stored table text told lines contents) → r ≡ Done told'
+  pub chain_walked : (j : Judged Told) (table' text' : List ℕ) (told' : Told) → 0 < remaining → is_chain b.kind ≡ true
+      → j ≡ answer_of (stored table text told lines contents) → in_chain j ≡ done told'
       → table' ≡ (stored table text told lines contents).table → text' ≡ (stored table text told lines contents).text
       → stored table text told lines (and_then (inside_of remaining s b) rest) ≡ stored table' text' told' lines rest
   unfolding stored all_of
-  chain_walked r table' text' told' h e a d t x =
-      let w = ends_well (stored table text told lines contents) told' (sym a ∙ ap walked_given d) in
+  chain_walked j table' text' told' h e a d t x =
+      let w = ends_well (stored table text told lines contents) told' (sym a ∙ in_chain_done j told' d) in
       ap (λ (o : Outcome). stored table text told lines (and_then o rest)) (chain_contents h e)
       ∙ store_on table text told lines (in_chain_outcome contents) rest w.0 (ap in_chain w.1) ∙ rw (t, x, sym w.2)
 
-  pub chain_refused : (r r' : Walked) (e : Refusal) (q : Stored) (table' text' : List ℕ) → 0 < remaining → is_chain b.kind ≡ true
-      → walked_given r ≡ answer_of (stored table text told lines contents) → r ≡ Refused e → walked_given r' ≡ in_chain (walked_given r)
+  pub chain_refused : (j : Judged Told) (n p : ℕ) (q : Stored) (table' text' : List ℕ) → 0 < remaining → is_chain b.kind ≡ true
+      → j ≡ answer_of (stored table text told lines contents) → in_chain j ≡ refused n p
       → table' ≡ (stored table text told lines contents).table → text' ≡ (stored table text told lines contents).text
-      → q ≡ stored table text told lines (and_then (inside_of remaining s b) rest) → Answered q r' table' text'
+      → q ≡ stored table text told lines (and_then (inside_of remaining s b) rest) → Answered q (refused n p) table' text'
   unfolding stored all_of
-  chain_refused r r' x q table' text' h e a d g t u v =
-      let w = ends_refused (stored table text told lines contents) x.number x.place (sym a ∙ ap walked_given d) in
+  chain_refused j n p q table' text' h e a g t u v =
+      let inner : answer_of (stored table text told lines (in_chain_outcome contents)) ≡ refused n p
+      = in_chain_answer table text told lines contents ∙ ap in_chain (sym a) ∙ g in
+      let w = ends_refused (stored table text told lines (in_chain_outcome contents)) n p inner in
       let all : q ≡ stored table text told lines (in_chain_outcome contents)
       = v ∙ ap (λ (o : Outcome). stored table text told lines (and_then o rest)) (chain_contents h e)
-      ∙ store_stop table text told lines (in_chain_outcome contents) rest _ x.place (ap in_chain w) in
+      ∙ store_stop table text told lines (in_chain_outcome contents) rest n p w in
       record {
-        answer = g ∙ ap in_chain a ∙ sym (ap answer_of all ∙ in_chain_answer table text told lines contents);
+        answer = sym (ap answer_of all ∙ inner);
         in_table = t ∙ sym (ap (λ (k : Stored). k.table) all);
         in_text = u ∙ sym (ap (λ (k : Stored). k.text) all);
       }
@@ -170,14 +169,8 @@ told_short lines row at told told₁ e b y =
     subst (Short (at + 12)) (sym e) (record { blocks = omega arith; bytes = omega (arith, bytes_short lines row) })
 
 -- no more is told than before
-pub filled-fits : (len at : ℕ) (r : Walked) (told : Told) → walked_given r ≡ filled_of at len told → told.blocks ≤ len → told.bytes ≤ 9 * len → ToldFits len r
-filled-fits len at (Refused x) told e b y = tt
-filled-fits len at (Done told') told e b y = by (eqb at len) e where
-  by : (t : Bool) → done told' ≡ pick t (done told) (refused bad_chain at) → (told'.blocks ≤ len) × (told'.bytes ≤ 9 * len)
-  by true e = let same : told ≡ told' = cc in (rw same at b, rw same at y)
-  by false e = not_done (sym e)
-
--- a refusal tells nothing
-pub refused_fits : (len : ℕ) (r : Walked) (n p : ℕ) → walked_given r ≡ refused n p → ToldFits len r
-refused_fits len (Done told) n p e = not_done (sym e)
-refused_fits len (Refused x) n p e = tt
+pub filled-fits : (len at : ℕ) (j : Judged Told) (told : Told) → j ≡ filled_of at len told → told.blocks ≤ len → told.bytes ≤ 9 * len → ToldFits len j
+filled-fits len at j told e b y = rw e (by (eqb at len)) where
+  by : (t : Bool) → ToldFits len (pick t (done told) (refused bad_chain at))
+  by true = (b, y)
+  by false = tt

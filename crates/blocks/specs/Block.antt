@@ -3,7 +3,7 @@
 use Rattle.std.specs.Prelude.{ℕ, ◌+◌, List, Bool, eqb, ltb, length, take}
 use Rattle.fields.specs.Numbers.{unknown_type, out_of_order, bad_chain, over_limit}
 use Rattle.fields.specs.Limits.{largest_file}
-use Rattle.fields.specs.Judged.{Judged, done, refused, refused_by, on_done, refused_if, pick}
+use Rattle.fields.specs.Judged.{Judged, done, refused, on_done, refused_if, pick}
 use Rattle.blocks.specs.Kind.{chain_type, kind_of, is_chain}
 use Rattle.blocks.specs.Head.{head_size, head_at, extent_of, room_of}
 use Rattle.blocks.specs.Chain.{in_chain, chain_at}
@@ -13,8 +13,6 @@ use Rattle.blocks.specs.declared.head.Head.{Head}
 use Rattle.blocks.specs.declared.head.Extent.{Extent}
 use Rattle.blocks.specs.declared.chain.Run.{Run}
 use Rattle.blocks.specs.declared.block.Block.{Block}
-use Rattle.blocks.specs.declared.block.BlockAnswer.{BlockAnswer}
-use Rattle.blocks.specs.declared.block.BlockAnswer.TheVariants.{Found, Refused}
 
 -- "four levels at most"
 abbrev pub levels : ℕ
@@ -58,8 +56,3 @@ block_in s at remaining continued =
     refused_if (ltb largest_file (length s)) over_limit 0
     (refused_if (ltb levels remaining) bad_chain at
     (pick (eqb remaining levels) (block_at s at remaining continued) (in_chain (block_at s at remaining continued))))
-
--- 01's number, place and values of each case
-abbrev pub block_given : BlockAnswer → Judged Block
-block_given (Found b) = done b
-block_given (Refused e) = refused_by e

@@ -2,13 +2,11 @@
 -- from the data's start, modifier count, then that many blocks." A chain's bytes are those of the file up to the chain's end.
 use Rattle.std.specs.Prelude.{ℕ, ◌+◌, ◌-◌, List, eqb, ltb, length}
 use Rattle.fields.specs.Numbers.{truncated, bad_chain}
-use Rattle.fields.specs.Judged.{Judged, done, refused, refused_by, on_done, refused_if, pick}
+use Rattle.fields.specs.Judged.{Judged, done, refused, on_done, refused_if, pick}
 use Rattle.fields.specs.Field.{field_at}
 use Rattle.fields.specs.Name.{name_at}
 use Rattle.blocks.specs.Padding.{aligned_to, zeros_of}
 use Rattle.blocks.specs.declared.chain.Run.{Run}
-use Rattle.blocks.specs.declared.chain.RunAnswer.{RunAnswer}
-use Rattle.blocks.specs.declared.chain.RunAnswer.TheVariants.{Found, Refused}
 
 -- "a field or block passing its end is 7, not 1"
 abbrev pub chain_number : ℕ → ℕ
@@ -38,8 +36,3 @@ fields_after_name s at size =
 -- the chain whose data starts at `at`: where its blocks start, and how many they are
 unfoldable pub chain_at : List ℕ → ℕ → Judged Run
 chain_at s at = on_done (name_at s at) λ size. fields_after_name s at size
-
--- 01's number, place and values of each case
-abbrev pub run_given : RunAnswer → Judged Run
-run_given (Found run) = done run
-run_given (Refused e) = refused_by e

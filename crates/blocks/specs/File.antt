@@ -1,15 +1,13 @@
 -- The blocks of a whole file (01, "Blocks"): the header first, then the blocks at the top. "The block walk and the climb text judge 12
 -- last".
 use Rattle.std.specs.Prelude.{ℕ, List, [], ◌∷◌, false, length}
-use Rattle.fields.specs.Judged.{Judged, done, refused_by, on_done, room_for}
+use Rattle.fields.specs.Judged.{Judged, done, on_done, room_for}
 use Rattle.blocks.specs.Block.{levels}
 use Rattle.blocks.specs.Header.{first_of}
 use Rattle.blocks.specs.Walk.{Outcome, tells, on_judged, and_then, row_of, walk_of}
 use Rattle.blocks.specs.Told.{row_words, line_of, all_of}
 use Rattle.blocks.specs.declared.header.First.{First}
 use Rattle.blocks.specs.declared.tell.Told.{Told}
-use Rattle.blocks.specs.declared.file.Walk as walk
-use Rattle.blocks.specs.declared.file.Lines as lines
 
 -- the header's row, and then the blocks at the top to the file's end; each takes at least one byte, so there are at most as many as
 -- bytes (proofs/Enough.antt: that bound plays no part)
@@ -36,12 +34,3 @@ lines_of s = on_done (file_of s).ending λ _. done (record { blocks = length (fi
 
 unfoldable pub lines_in : List ℕ → List ℕ → Judged Told
 lines_in s text = on_done (lines_of s) λ told. room_for (file_lines s) text told
-
--- 01's number, place and values of each case
-abbrev pub walk_given : walk.Walk → Judged ℕ
-walk_given (walk.TheVariants.Done blocks) = done blocks
-walk_given (walk.TheVariants.Refused e) = refused_by e
-
-abbrev pub lines_given : lines.Lines → Judged Told
-lines_given (lines.TheVariants.Done blocks bytes) = done (record { blocks = blocks; bytes = bytes })
-lines_given (lines.TheVariants.Refused e) = refused_by e

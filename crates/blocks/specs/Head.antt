@@ -2,12 +2,10 @@
 -- meta data, zero bytes likewise. Sizes exclude padding."
 use Rattle.std.specs.Prelude.{ℕ, ◌+◌, ◌-◌, List, ltb}
 use Rattle.fields.specs.Numbers.{truncated}
-use Rattle.fields.specs.Judged.{Judged, done, refused_by, on_done, refused_if}
+use Rattle.fields.specs.Judged.{Judged, done, on_done, refused_if}
 use Rattle.fields.specs.Field.{field_at}
 use Rattle.blocks.specs.Padding.{aligned_to, zeros_of, fine}
 use Rattle.blocks.specs.declared.head.Head.{Head}
-use Rattle.blocks.specs.declared.head.HeadAnswer.{HeadAnswer}
-use Rattle.blocks.specs.declared.head.HeadAnswer.TheVariants.{Found, Refused}
 use Rattle.blocks.specs.declared.head.Extent.{Extent}
 
 -- the bytes of the three numbers
@@ -51,8 +49,3 @@ unfoldable pub paddings_of : List ℕ → Extent → Judged (Unit {0})
 paddings_of s e =
     on_done (zeros_of (e.meta_at - e.data_end) s e.data_end) λ _.
     zeros_of (e.next - e.meta_end) s e.meta_end
-
--- 01's number, place and values of each case
-abbrev pub head_given : HeadAnswer → Judged Head
-head_given (Found head) = done head
-head_given (Refused e) = refused_by e

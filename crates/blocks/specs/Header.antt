@@ -3,7 +3,7 @@
 use Rattle.std.specs.Prelude.{ℕ, ◌+◌, ◌/◌, ◌%◌, Bool, List, [], ◌∷◌, eqb, ltb, length}
 use Rattle.fields.specs.Numbers.{truncated, bad_header, bad_size, bad_profile, over_limit}
 use Rattle.fields.specs.Limits.{largest_file}
-use Rattle.fields.specs.Judged.{Judged, done, refused, refused_by, on_done, refused_if, pick}
+use Rattle.fields.specs.Judged.{Judged, done, refused, on_done, refused_if, pick}
 use Rattle.fields.specs.Field.{field_at}
 use Rattle.fields.specs.Member.{member}
 use Rattle.blocks.specs.Kind.{header_type}
@@ -11,12 +11,8 @@ use Rattle.blocks.specs.Head.{head_size, data_size_at, head_at, extent_of, room_
 use Rattle.blocks.specs.declared.head.Head.{Head}
 use Rattle.blocks.specs.declared.header.FileHeader.{FileHeader}
 use Rattle.blocks.specs.declared.header.Version.{Version}
-use Rattle.blocks.specs.declared.header.VersionAnswer as version
 use Rattle.blocks.specs.declared.header.Sizes.{Sizes}
-use Rattle.blocks.specs.declared.header.SizesAnswer as sizes
-use Rattle.blocks.specs.declared.header.FieldsAnswer as fields
 use Rattle.blocks.specs.declared.header.First.{First}
-use Rattle.blocks.specs.declared.header.FirstBlock as first
 
 -- where its fields stand, one after the other: 9.4.1.1 to 9.4.1.6
 abbrev pub major_at : ℕ
@@ -126,20 +122,3 @@ judged_of s head =
 -- the first block of a file; "a file .. above 16 MiB (place 0, judged first)" is 9
 unfoldable pub first_of : List ℕ → Judged First
 first_of s = refused_if (ltb largest_file (length s)) over_limit 0 (on_done (head_at s 0) λ head. judged_of s head)
-
--- 01's number, place and values of each case
-abbrev pub version_given : version.VersionAnswer → Judged Version
-version_given (version.TheVariants.Found v) = done v
-version_given (version.TheVariants.Refused e) = refused_by e
-
-abbrev pub sizes_given : sizes.SizesAnswer → Judged Sizes
-sizes_given (sizes.TheVariants.Found s) = done s
-sizes_given (sizes.TheVariants.Refused e) = refused_by e
-
-abbrev pub fields_given : fields.FieldsAnswer → Judged FileHeader
-fields_given (fields.TheVariants.Found h) = done h
-fields_given (fields.TheVariants.Refused e) = refused_by e
-
-abbrev pub first_given : first.FirstBlock → Judged First
-first_given (first.TheVariants.Found f) = done f
-first_given (first.TheVariants.Refused e) = refused_by e

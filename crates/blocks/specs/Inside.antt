@@ -2,9 +2,8 @@
 use Rattle.std.specs.Prelude.{ℕ, ◌+◌, ◌*◌, ◌≤◌, List, [], Bool, false, eqb, length}
 use Rattle.std.proofs.lemmas.List.Edits.{sets}
 use Rattle.fields.specs.Numbers.{bad_chain}
-use Rattle.fields.specs.Judged.{Judged, done, refused, refused_by, on_done, pick}
-use Rattle.fields.specs.declared.numbers.Refusal.{Refusal}
-use Rattle.blocks.specs.Chain.{chain_number}
+use Rattle.fields.specs.Judged.{Judged, done, refused, on_done, pick}
+use Rattle.blocks.specs.Padding.{fine}
 use Rattle.blocks.specs.Walk.{Outcome, walk_of}
 use Rattle.blocks.specs.Told.{row_width, row_words, line_of, all_of}
 use Rattle.blocks.specs.File.{after_first, file_of}
@@ -12,12 +11,10 @@ use Rattle.blocks.specs.declared.chain.Run.{Run}
 use Rattle.blocks.specs.declared.header.First.{First}
 use Rattle.blocks.specs.declared.tell.Row.{Row}
 use Rattle.blocks.specs.declared.tell.Told.{Told}
-use Rattle.blocks.specs.declared.walk.Walked.{Walked}
-use Rattle.blocks.specs.declared.walk.Walked.TheVariants.{Done, Refused}
 
--- a refusal inside a chain, handed on
-abbrev pub refusal_in_chain : Refusal → Refusal
-refusal_in_chain e = record { number = chain_number e.number; place = e.place }
+-- a block that may not stand where it does has a number
+abbrev pub stands_at : ℕ → ℕ → Judged (Unit {0})
+stands_at number at = pick (eqb number 0) fine (refused number at)
 
 -- the text of a row, where lines are asked for
 abbrev pub bytes_of : Bool → Row → List ℕ
@@ -47,18 +44,14 @@ stored table text told lines o = record {
 unfoldable pub answer_of : Stored → Judged Told
 answer_of r = on_done r.ending λ _. done r.told
 
-abbrev pub walked_given : Walked → Judged Told
-walked_given (Done told) = done told
-walked_given (Refused e) = refused_by e
-
 -- the answer where all blocks are walked
 abbrev pub filled_of : ℕ → ℕ → Told → Judged Told
 filled_of at len told = pick (eqb at len) (done told) (refused bad_chain at)
 
 -- at most so much is told of so many bytes
-abbrev pub ToldFits : ℕ → Walked → Type 0
-ToldFits len (Done told) = (told.blocks ≤ len) × (told.bytes ≤ 9 * len)
-ToldFits len (Refused e) = Unit {0}
+abbrev pub ToldFits : ℕ → Judged Told → Type 0
+ToldFits len (done told) = (told.blocks ≤ len) × (told.bytes ≤ 9 * len)
+ToldFits len (refused n p) = Unit {0}
 
 -- nothing told yet, and what a whole file tells
 abbrev pub none_told : Told

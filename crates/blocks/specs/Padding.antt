@@ -1,9 +1,7 @@
 -- Padding (01, "Blocks"): "zero bytes to a multiple of 4".
 use Rattle.std.specs.Prelude.{ℕ, zero, suc, ◌+◌, ◌*◌, ◌/◌, List, get_or, eqb}
 use Rattle.fields.specs.Numbers.{bad_padding}
-use Rattle.fields.specs.Judged.{Judged, done, refused, refused_by, pick}
-use Rattle.blocks.specs.declared.padding.Check.{Check}
-use Rattle.blocks.specs.declared.padding.Check.TheVariants.{Fine, Refused}
+use Rattle.fields.specs.Judged.{Judged, done, refused, pick}
 
 -- a size with its padding
 abbrev pub aligned_to : ℕ → ℕ
@@ -17,8 +15,3 @@ fine = done tt
 unfoldable pub zeros_of : ℕ → List ℕ → ℕ → Judged (Unit {0})
 zeros_of zero s at = fine
 zeros_of (suc k) s at = pick (eqb (get_or s at 0) 0) (zeros_of k s (suc at)) (refused bad_padding at)
-
--- 01's number and place of each case
-abbrev pub check_given : Check → Judged (Unit {0})
-check_given Fine = fine
-check_given (Refused e) = refused_by e

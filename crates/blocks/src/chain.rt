@@ -1,109 +1,66 @@
 // The fields of a modifier chain before its blocks (clause 9.4.3), read from the bytes up to the chain's end.
 ghost use Rattle.std.specs.Prelude.{◌≡◌, ◌+◌, ◌≤◌, length};
 ghost use Rattle.fields.specs.Limits.{longest_name};
-ghost use Rattle.fields.specs.Numbers.{truncated};
-ghost use Rattle.fields.specs.Judged.{refused};
-ghost use Rattle.blocks.specs.Chain.{count_at, fields_after_name, chain_at, run_given};
-ghost use Rattle.blocks.specs.Inside.{refusal_in_chain};
+ghost use Rattle.fields.specs.Judged.{given};
+ghost use Rattle.blocks.specs.Chain.{count_at, fields_after_name, chain_at, in_chain};
 
-use crate::padding::{Check, aligned, zeros};
-use fields::field::{U32Field, u32_at};
-use fields::name::{NameField, name_at};
-use fields::numbers::{BAD_CHAIN, BAD_NAME, Refusal, TRUNCATED};
+use crate::padding::{aligned, zeros};
+use fields::field::read_at;
+use fields::name::name_size;
+use fields::refusal::{Fault, Refusal};
 
 // Blocks that stand one after the other: where the first starts, and how many they are.
-#[derive(Drop)]
+#[derive(Clone, Copy, Debug, PartialEq, Eq)]
 pub struct Run {
     pub at: usize,
     pub count: u32,
 }
 
-#[derive(Drop)]
-pub enum RunAnswer {
-    Found(Run),
-    Refused(Refusal),
-}
-
-// Inside a chain bytes that end too early are the chain's fault.
-pub(crate) fn in_chain(e: Refusal) -> Refusal
-    ensures { result ≡ refusal_in_chain e }
+// What was judged inside a chain: bytes that end too early are the chain's fault.
+pub(crate) fn in_chain<T>(judged: Result<T, Refusal>) -> Result<T, Refusal>
+    ensures { given result ≡ in_chain (given judged) }
 {
-    if e.number == TRUNCATED {
-        Refusal {
-            number: BAD_CHAIN,
-            place: e.place,
-        }
-    } else {
-        e
-    }
-}
-
-fn truncated(place: usize) -> RunAnswer
-    ensures { run_given result ≡ refused truncated place }
-{
-    RunAnswer::Refused(Refusal {
-        number: TRUNCATED,
-        place,
+    judged.map_err(|e| match e.fault {
+        Fault::Truncated => Fault::BadChain.at(e.place),
+        _ => e,
     })
 }
 
 // A chain's padding from `from` up to `to`, and its modifier count.
-fn count_at(s: &[u8], from: usize, to: usize) -> RunAnswer
+fn count_at(s: &[u8], from: usize, to: usize) -> Result<Run, Refusal>
     requires { (from ≤ length s.now) × (from ≤ to) }
-    ensures { run_given result ≡ count_at s.now from to }
+    ensures { given result ≡ count_at s.now from to }
 {
     if s.len() < to {
-        return truncated(from);
+        return Err(Fault::Truncated.at(from));
     }
-    match zeros(s, from, to) {
-        Check::Refused(e) => RunAnswer::Refused(e),
-        Check::Fine => {
-            let U32Field::Value(count) = u32_at(s, to) else {
-                return truncated(to);
-            };
-            RunAnswer::Found(Run { at: to + 4, count })
-        }
-    }
+    zeros(s, from, to)?;
+    let count = read_at(s, to)?;
+    Ok(Run { at: to + 4, count })
 }
 
 // The fields of a chain after its name of `size` bytes.
-fn fields_after_name(s: &[u8], at: usize, size: usize) -> RunAnswer
+fn fields_after_name(s: &[u8], at: usize, size: usize) -> Result<Run, Refusal>
     requires { (at + (size + 2) ≤ length s.now) × (size ≤ longest_name) }
-    ensures { run_given result ≡ fields_after_name s.now at size }
+    ensures { given result ≡ fields_after_name s.now at size }
 {
     let next = at + (size + 2);
-    let U32Field::Value(kind) = u32_at(s, next) else {
-        return truncated(next);
-    };
+    let kind: u32 = read_at(s, next)?;
     if 2 < kind {
-        return RunAnswer::Refused(Refusal {
-            number: BAD_CHAIN,
-            place: next,
-        });
+        return Err(Fault::BadChain.at(next));
     }
-    let U32Field::Value(attributes) = u32_at(s, next + 4) else {
-        return truncated(next + 4);
-    };
+    let attributes: u32 = read_at(s, next + 4)?;
     if attributes != 0 {
-        return RunAnswer::Refused(Refusal {
-            number: BAD_CHAIN,
-            place: next + 4,
-        });
+        return Err(Fault::BadChain.at(next + 4));
     }
     count_at(s, next + 8, at + aligned(size + 10))
 }
 
 // The fields of a chain whose data starts at `at` and ends with `s`: where its blocks start, and how many they are.
-pub(crate) fn chain_at(s: &[u8], at: usize) -> RunAnswer
+pub(crate) fn chain_at(s: &[u8], at: usize) -> Result<Run, Refusal>
     requires { at ≤ length s.now }
-    ensures { run_given result ≡ chain_at s.now at }
+    ensures { given result ≡ chain_at s.now at }
 {
-    match name_at(s, at) {
-        NameField::Missing => truncated(at),
-        NameField::Long => RunAnswer::Refused(Refusal {
-            number: BAD_NAME,
-            place: at,
-        }),
-        NameField::Size(size) => fields_after_name(s, at, size),
-    }
+    let size = name_size(s, at)?;
+    fields_after_name(s, at, size)
 }

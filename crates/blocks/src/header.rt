@@ -1,15 +1,14 @@
 // The file header block (clause 9.4.1), which comes first.
 ghost use Rattle.std.specs.Prelude.{◌≡◌};
-ghost use Rattle.fields.specs.Field.{u64_given};
-ghost use Rattle.blocks.specs.Header.{has_units, data_size_of, version_of, version_given, sizes_of, sizes_given, units_at, units_of};
-ghost use Rattle.blocks.specs.Header.{fields_of, fields_given, rest_of, sized_of, judged_of, first_of, first_given};
+ghost use Rattle.fields.specs.Judged.{given};
+ghost use Rattle.blocks.specs.Header.{has_units, data_size_of, version_of, sizes_of, units_of};
+ghost use Rattle.blocks.specs.Header.{fields_of, rest_of, sized_of, judged_of, first_of};
 
-use crate::head::{DATA_SIZE_AT, HEAD_SIZE, Head, HeadAnswer, extent_of, head_at, paddings, room};
+use crate::head::{DATA_SIZE_AT, HEAD_SIZE, Head, extent_of, head_at, paddings, room};
 use crate::kind::FILE_HEADER;
-use crate::padding::Check;
-use fields::field::{U16Field, U32Field, U64Field, u16_at, u32_at, u64_at};
+use fields::field::read_at;
 use fields::limits::LARGEST_FILE;
-use fields::numbers::{BAD_HEADER, BAD_PROFILE, BAD_SIZE, OVER_LIMIT, Refusal, TRUNCATED};
+use fields::refusal::{Fault, Refusal};
 
 // Where the header's fields stand, one after the other.
 const MAJOR_AT: usize = HEAD_SIZE;
@@ -36,7 +35,7 @@ const DATA_WITH_UNITS: u32 = 32;
 
 // The header's fields after its major version, which is 0. The units scaling factor is the bit pattern of an F64, and 0 where the profile
 // has no units.
-#[derive(Drop)]
+#[derive(Clone, Copy, Debug, PartialEq, Eq)]
 pub struct FileHeader {
     pub minor_version: u16,
     pub profile: u32,
@@ -47,47 +46,23 @@ pub struct FileHeader {
 }
 
 // The first block of a file: its fields, its leading numbers, and where the next block starts.
-#[derive(Drop)]
+#[derive(Clone, Copy, Debug, PartialEq, Eq)]
 pub struct First {
     pub fields: FileHeader,
     pub head: Head,
     pub next: usize,
 }
 
-#[derive(Drop)]
-pub enum FirstBlock {
-    Found(First),
-    Refused(Refusal),
-}
-
-#[derive(Drop)]
+#[derive(Clone, Copy, Debug, PartialEq, Eq)]
 struct Version {
     minor: u16,
     profile: u32,
 }
 
-#[derive(Drop)]
-enum VersionAnswer {
-    Found(Version),
-    Refused(Refusal),
-}
-
-#[derive(Drop)]
+#[derive(Clone, Copy, Debug, PartialEq, Eq)]
 struct Sizes {
     declaration: u32,
     file: u64,
-}
-
-#[derive(Drop)]
-enum SizesAnswer {
-    Found(Sizes),
-    Refused(Refusal),
-}
-
-#[derive(Drop)]
-enum FieldsAnswer {
-    Found(FileHeader),
-    Refused(Refusal),
 }
 
 fn has_units(profile: u32) -> bool
@@ -108,101 +83,54 @@ fn data_size_of(profile: u32) -> u32
 }
 
 // Version and profile of the header.
-fn version_fields(s: &[u8]) -> VersionAnswer
-    ensures { version_given result ≡ version_of s.now }
+fn version_fields(s: &[u8]) -> Result<Version, Refusal>
+    ensures { given result ≡ version_of s.now }
 {
-    let U16Field::Value(major) = u16_at(s, MAJOR_AT) else {
-        return VersionAnswer::Refused(Refusal {
-            number: TRUNCATED,
-            place: MAJOR_AT,
-        });
-    };
+    let major: u16 = read_at(s, MAJOR_AT)?;
     if major != 0 {
-        return VersionAnswer::Refused(Refusal {
-            number: BAD_HEADER,
-            place: MAJOR_AT,
-        });
+        return Err(Fault::BadHeader.at(MAJOR_AT));
     }
-    let U16Field::Value(minor) = u16_at(s, MINOR_AT) else {
-        return VersionAnswer::Refused(Refusal {
-            number: TRUNCATED,
-            place: MINOR_AT,
-        });
-    };
-    let U32Field::Value(profile) = u32_at(s, PROFILE_AT) else {
-        return VersionAnswer::Refused(Refusal {
-            number: TRUNCATED,
-            place: PROFILE_AT,
-        });
-    };
+    let minor = read_at(s, MINOR_AT)?;
+    let profile = read_at(s, PROFILE_AT)?;
     match profile {
-        0 | 2 | 8 | 10 => VersionAnswer::Found(Version { minor, profile }),
-        _ => VersionAnswer::Refused(Refusal {
-            number: BAD_PROFILE,
-            place: PROFILE_AT,
-        }),
+        0 | 2 | 8 | 10 => Ok(Version { minor, profile }),
+        _ => Err(Fault::BadProfile.at(PROFILE_AT)),
     }
 }
 
 // Declaration size and file size, which are judged by the length.
-fn size_fields(s: &[u8]) -> SizesAnswer
-    ensures { sizes_given result ≡ sizes_of s.now }
+fn size_fields(s: &[u8]) -> Result<Sizes, Refusal>
+    ensures { given result ≡ sizes_of s.now }
 {
-    let U32Field::Value(declaration) = u32_at(s, DECLARATION_SIZE_AT) else {
-        return SizesAnswer::Refused(Refusal {
-            number: TRUNCATED,
-            place: DECLARATION_SIZE_AT,
-        });
-    };
+    let declaration: u32 = read_at(s, DECLARATION_SIZE_AT)?;
     if s.len() < declaration as usize {
-        return SizesAnswer::Refused(Refusal {
-            number: BAD_SIZE,
-            place: DECLARATION_SIZE_AT,
-        });
+        return Err(Fault::BadSize.at(DECLARATION_SIZE_AT));
     }
-    let U64Field::Value(file) = u64_at(s, FILE_SIZE_AT) else {
-        return SizesAnswer::Refused(Refusal {
-            number: TRUNCATED,
-            place: FILE_SIZE_AT,
-        });
-    };
+    let file: u64 = read_at(s, FILE_SIZE_AT)?;
     if file != s.len() as u64 {
-        return SizesAnswer::Refused(Refusal {
-            number: BAD_SIZE,
-            place: FILE_SIZE_AT,
-        });
+        return Err(Fault::BadSize.at(FILE_SIZE_AT));
     }
-    SizesAnswer::Found(Sizes { declaration, file })
+    Ok(Sizes { declaration, file })
 }
 
 // The units scaling factor; 0 where the profile has none.
-fn units_field(s: &[u8], profile: u32) -> U64Field
-    ensures { u64_given units_at result ≡ units_of s.now profile }
+fn units_field(s: &[u8], profile: u32) -> Result<u64, Refusal>
+    ensures { given result ≡ units_of s.now profile }
 {
     if has_units(profile) {
-        u64_at(s, UNITS_AT)
+        read_at(s, UNITS_AT)
     } else {
-        U64Field::Value(0)
+        Ok(0)
     }
 }
 
 // The fields after version and sizes, and all of them.
-fn header_fields(s: &[u8], version: Version, sizes: Sizes) -> FieldsAnswer
-    ensures { fields_given result ≡ fields_of s.now version sizes }
+fn header_fields(s: &[u8], version: Version, sizes: Sizes) -> Result<FileHeader, Refusal>
+    ensures { given result ≡ fields_of s.now version sizes }
 {
-    let U32Field::Value(encoding) = u32_at(s, ENCODING_AT) else {
-        return FieldsAnswer::Refused(Refusal {
-            number: TRUNCATED,
-            place: ENCODING_AT,
-        });
-    };
-    let U64Field::Value(units) = units_field(s, version.profile) else {
-        return FieldsAnswer::Refused(Refusal {
-            number: TRUNCATED,
-            place: UNITS_AT,
-        });
-    };
-    FieldsAnswer::Found(FileHeader {
+    let encoding = read_at(s, ENCODING_AT)?;
+    let units = units_field(s, version.profile)?;
+    Ok(FileHeader {
         minor_version: version.minor,
         profile: version.profile,
         declaration_size: sizes.declaration,
@@ -213,79 +141,55 @@ fn header_fields(s: &[u8], version: Version, sizes: Sizes) -> FieldsAnswer
 }
 
 // The rest of the header block: room for meta data and paddings, and the paddings.
-fn header_rest(s: &[u8], head: Head, fields: FileHeader) -> FirstBlock
-    ensures { first_given result ≡ rest_of s.now head fields }
+fn header_rest(s: &[u8], head: Head, fields: FileHeader) -> Result<First, Refusal>
+    ensures { given result ≡ rest_of s.now head fields }
 {
     let extent = extent_of(0, head);
-    let next = extent.next;
-    match room(s.len(), 0, extent) {
-        Check::Refused(e) => FirstBlock::Refused(e),
-        Check::Fine => match paddings(s, extent) {
-            Check::Refused(e) => FirstBlock::Refused(e),
-            Check::Fine => FirstBlock::Found(First { fields, head, next }),
-        },
-    }
+    room(s.len(), 0, extent)?;
+    paddings(s, extent)?;
+    Ok(First {
+        fields,
+        head,
+        next: extent.next,
+    })
 }
 
 // The first block, whose version has been read: its data size, room for its data, and what follows.
-fn sized_header(s: &[u8], head: Head, version: Version) -> FirstBlock
-    ensures { first_given result ≡ sized_of s.now head version }
+fn sized_header(s: &[u8], head: Head, version: Version) -> Result<First, Refusal>
+    ensures { given result ≡ sized_of s.now head version }
 {
     if head.data_size != data_size_of(version.profile) {
-        return FirstBlock::Refused(Refusal {
-            number: BAD_HEADER,
-            place: DATA_SIZE_AT,
-        });
+        return Err(Fault::BadHeader.at(DATA_SIZE_AT));
     }
     if s.len() < HEAD_SIZE + head.data_size as usize {
-        return FirstBlock::Refused(Refusal {
-            number: TRUNCATED,
-            place: HEAD_SIZE,
-        });
+        return Err(Fault::Truncated.at(HEAD_SIZE));
     }
-    match size_fields(s) {
-        SizesAnswer::Refused(e) => FirstBlock::Refused(e),
-        SizesAnswer::Found(sizes) => match header_fields(s, version, sizes) {
-            FieldsAnswer::Refused(e) => FirstBlock::Refused(e),
-            FieldsAnswer::Found(fields) => header_rest(s, head, fields),
-        },
-    }
+    let sizes = size_fields(s)?;
+    let fields = header_fields(s, version, sizes)?;
+    header_rest(s, head, fields)
 }
 
 // The first block, whose leading numbers have been read.
-fn judged_header(s: &[u8], head: Head) -> FirstBlock
-    ensures { first_given result ≡ judged_of s.now head }
+fn judged_header(s: &[u8], head: Head) -> Result<First, Refusal>
+    ensures { given result ≡ judged_of s.now head }
 {
     if head.block_type != FILE_HEADER {
-        return FirstBlock::Refused(Refusal {
-            number: BAD_HEADER,
-            place: 0,
-        });
+        return Err(Fault::BadHeader.at(0));
     }
     if s.len() < HEAD_SIZE + LEAST_DATA as usize {
-        return FirstBlock::Refused(Refusal {
-            number: TRUNCATED,
-            place: HEAD_SIZE,
-        });
+        return Err(Fault::Truncated.at(HEAD_SIZE));
     }
-    match version_fields(s) {
-        VersionAnswer::Refused(e) => FirstBlock::Refused(e),
-        VersionAnswer::Found(version) => sized_header(s, head, version),
-    }
+    let version = version_fields(s)?;
+    sized_header(s, head, version)
 }
 
 // The first block of a file.
-pub fn first_block(file: &[u8]) -> FirstBlock
-    ensures { first_given result ≡ first_of file.now }
+pub fn first_block(file: &[u8]) -> Result<First, Refusal>
+    ensures { given result ≡ first_of file.now }
 {
     if LARGEST_FILE < file.len() {
-        return FirstBlock::Refused(Refusal {
-            number: OVER_LIMIT,
-            place: 0,
-        });
+        return Err(Fault::OverLimit.at(0));
     }
-    match head_at(file, 0) {
-        HeadAnswer::Refused(e) => FirstBlock::Refused(e),
-        HeadAnswer::Found(head) => judged_header(file, head),
-    }
+    let head = head_at(file, 0)?;
+    judged_header(file, head)
 }

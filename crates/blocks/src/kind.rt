@@ -1,6 +1,6 @@
 // The kinds of blocks, by block type.
-ghost use Rattle.std.specs.Prelude.{◌≡◌, ◌<◌};
-ghost use Rattle.blocks.specs.Kind.{class_of, kind_of, is_chain, is_continuation};
+ghost use Rattle.std.specs.Prelude.{◌≡◌};
+ghost use Rattle.blocks.specs.Kind.{kind_of, is_chain, is_continuation};
 
 pub const FILE_HEADER: u32 = 0x00443355;
 
@@ -9,31 +9,12 @@ pub const MODIFIER_CHAIN: u32 = 0xFFFFFF14;
 // The known types but the header's are this one and a last byte.
 pub const KNOWN_TYPES: u32 = 0xFFFFFF00;
 
-#[derive(Clone, Copy)]
+#[derive(Clone, Copy, Debug, PartialEq, Eq)]
 pub enum Kind {
     Header,
     Declaration(u32),
     Continuation(u32),
     Unknown,
-}
-
-// By a type's last byte: 1 a declaration, 2 a continuation, 0 neither.
-const CLASSES: [u8; 256] = [
-    0, 0, 0, 0, 0, 0, 0, 0, 0, 0, 0, 0, 0, 0, 0, 0, 0, 0, 1, 0, 1, 2, 1, 0, 0, 0, 0, 0, 0, 0, 0, 0,
-    0, 1, 1, 1, 1, 0, 0, 0, 0, 0, 0, 0, 0, 0, 0, 0, 0, 1, 0, 0, 0, 0, 1, 1, 0, 0, 0, 2, 2, 0, 2, 2,
-    0, 1, 1, 1, 1, 1, 1, 0, 0, 0, 0, 0, 0, 0, 0, 0, 0, 1, 1, 1, 1, 1, 1, 0, 0, 0, 0, 0, 2, 0, 0, 0,
-    0, 0, 0, 0, 0, 0, 0, 0, 0, 0, 0, 0, 0, 0, 0, 0, 0, 0, 0, 0, 0, 0, 0, 0, 0, 0, 0, 0, 0, 0, 0, 0,
-    0, 0, 0, 0, 0, 0, 0, 0, 0, 0, 0, 0, 0, 0, 0, 0, 0, 0, 0, 0, 0, 0, 0, 0, 0, 0, 0, 0, 0, 0, 0, 0,
-    0, 0, 0, 0, 0, 0, 0, 0, 0, 0, 0, 0, 0, 0, 0, 0, 0, 0, 0, 0, 0, 0, 0, 0, 0, 0, 0, 0, 0, 0, 0, 0,
-    0, 0, 0, 0, 0, 0, 0, 0, 0, 0, 0, 0, 0, 0, 0, 0, 0, 0, 0, 0, 0, 0, 0, 0, 0, 0, 0, 0, 0, 0, 0, 0,
-    0, 0, 0, 0, 0, 0, 0, 0, 0, 0, 0, 0, 0, 0, 0, 0, 0, 0, 0, 0, 0, 0, 0, 0, 0, 0, 0, 0, 0, 0, 0, 0,
-];
-
-fn class_of(last: usize) -> u8
-    requires { last < 256 }
-    ensures { result ≡ class_of last }
-{
-    CLASSES[last]
 }
 
 // The kind of a block type.
@@ -46,13 +27,12 @@ pub fn kind_of(block_type: u32) -> Kind
     if block_type < KNOWN_TYPES {
         return Kind::Unknown;
     }
-    let class = class_of((block_type - KNOWN_TYPES) as usize);
-    if class == 1 {
-        Kind::Declaration(block_type)
-    } else if class == 2 {
-        Kind::Continuation(block_type)
-    } else {
-        Kind::Unknown
+    let last = block_type - KNOWN_TYPES;
+    match last {
+        0x12 | 0x14 | 0x16 | 0x21..=0x24 | 0x31 | 0x36 | 0x37 | 0x41..=0x46 | 0x51..=0x56 =>
+            Kind::Declaration(block_type),
+        0x15 | 0x3B | 0x3C | 0x3E | 0x3F | 0x5C => Kind::Continuation(block_type),
+        _ => Kind::Unknown,
     }
 }
 
@@ -61,19 +41,12 @@ pub(crate) fn is_chain(kind: Kind) -> bool
 {
     match kind {
         Kind::Declaration(block_type) => block_type == MODIFIER_CHAIN,
-        Kind::Header => false,
-        Kind::Continuation(_) => false,
-        Kind::Unknown => false,
+        _ => false,
     }
 }
 
 pub(crate) fn is_continuation(kind: Kind) -> bool
     ensures { result ≡ is_continuation kind }
 {
-    match kind {
-        Kind::Continuation(_) => true,
-        Kind::Header => false,
-        Kind::Declaration(_) => false,
-        Kind::Unknown => false,
-    }
+    matches!(kind, Kind::Continuation(_))
 }

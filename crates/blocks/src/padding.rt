@@ -1,37 +1,27 @@
-// Padding bytes, which are all zero, and the answer of a judge that has no value to give.
+// Padding bytes, which are all zero.
 ghost use Rattle.std.specs.Prelude.{◌≡◌, ◌-◌, ◌≤◌, ◌<◌, length};
-ghost use Rattle.blocks.specs.Padding.{zeros_of, aligned_to, check_given};
+ghost use Rattle.fields.specs.Judged.{given};
+ghost use Rattle.blocks.specs.Padding.{zeros_of, aligned_to};
 
-use fields::numbers::{BAD_PADDING, Refusal};
-
-#[derive(Drop)]
-pub enum Check {
-    Fine,
-    Refused(Refusal),
-}
+use fields::refusal::{Fault, Refusal};
 
 // `size` rounded up to a multiple of 4.
 pub(crate) fn aligned(size: usize) -> usize
     requires { size < 1099511627776 }
     ensures { result ≡ aligned_to size }
 {
-    (size + 3) / 4 * 4
+    size.next_multiple_of(4)
 }
 
 // Refuses the first byte from `from` up to `to` that is not zero.
-pub(crate) fn zeros(s: &[u8], from: usize, to: usize) -> Check
+pub(crate) fn zeros(s: &[u8], from: usize, to: usize) -> Result<(), Refusal>
     requires { to ≤ length s.now }
-    ensures { check_given result ≡ zeros_of (to - from) s.now from }
+    ensures { given result ≡ zeros_of (to - from) s.now from }
 {
-    let mut at = from;
-    while at < to {
+    for at in from..to {
         if s[at] != 0 {
-            return Check::Refused(Refusal {
-                number: BAD_PADDING,
-                place: at,
-            });
+            return Err(Fault::BadPadding.at(at));
         }
-        at = at + 1;
     }
-    Check::Fine
+    Ok(())
 }

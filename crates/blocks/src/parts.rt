@@ -2,118 +2,92 @@
 // stands, or number and place; the part itself is empty where that is refused.
 ghost use Rattle.std.specs.Prelude.{◌≡◌, ◌≤◌, length};
 ghost use Rattle.fields.specs.Limits.{largest_file};
-ghost use Rattle.fields.specs.Numbers.{truncated};
-ghost use Rattle.fields.specs.Judged.{refused};
-ghost use Rattle.fields.specs.Bounds.{bounds_given};
-ghost use Rattle.blocks.specs.Head.{head_given};
+ghost use Rattle.fields.specs.Judged.{given};
 ghost use Rattle.blocks.specs.Parts.{head_in, within, meta_within, chain_name_within};
 ghost use Rattle.blocks.specs.Parts.{data_bounds, meta_bounds, chain_name_bounds, data_part, meta_part, chain_name};
 
 use crate::chain::in_chain;
-use crate::head::{HEAD_SIZE, Head, HeadAnswer, extent_of, head_at};
+use crate::head::{HEAD_SIZE, Head, extent_of, head_at};
 use crate::kind::MODIFIER_CHAIN;
-use fields::bounds::{Bounds, BoundsAnswer, part_of};
+use fields::bounds::{Bounds, part_of};
 use fields::limits::LARGEST_FILE;
 use fields::name::name_bounds;
-use fields::numbers::{OUT_OF_ORDER, OVER_LIMIT, Refusal, TRUNCATED};
+use fields::refusal::{Fault, Refusal};
 
 // The leading numbers of the block at `at` of a file.
-fn head_in(file: &[u8], at: usize) -> HeadAnswer
-    ensures { head_given result ≡ head_in file.now at }
+fn head_in(file: &[u8], at: usize) -> Result<Head, Refusal>
+    ensures { given result ≡ head_in file.now at }
 {
     if LARGEST_FILE < file.len() {
-        return HeadAnswer::Refused(Refusal {
-            number: OVER_LIMIT,
-            place: 0,
-        });
+        return Err(Fault::OverLimit.at(0));
     }
     head_at(file, at)
 }
 
-fn truncated(place: usize) -> BoundsAnswer
-    ensures { bounds_given result ≡ refused truncated place }
-{
-    BoundsAnswer::Refused(Refusal {
-        number: TRUNCATED,
-        place,
-    })
-}
-
 // So many bytes from `at` on.
-fn within(file: &[u8], at: usize, size: usize) -> BoundsAnswer
+fn within(file: &[u8], at: usize, size: usize) -> Result<Bounds, Refusal>
     requires { at ≤ length file.now }
-    ensures { bounds_given result ≡ within file.now at size }
+    ensures { given result ≡ within file.now at size }
 {
     if file.len() - at < size {
-        return truncated(at);
+        return Err(Fault::Truncated.at(at));
     }
-    BoundsAnswer::Found(Bounds { at, size })
+    Ok(Bounds { at, size })
 }
 
 // The meta data of the block at `at`, after its data and their padding.
-fn meta_within(file: &[u8], at: usize, head: Head) -> BoundsAnswer
+fn meta_within(file: &[u8], at: usize, head: Head) -> Result<Bounds, Refusal>
     requires { at ≤ largest_file }
-    ensures { bounds_given result ≡ meta_within file.now at head }
+    ensures { given result ≡ meta_within file.now at head }
 {
     let extent = extent_of(at, head);
     if file.len() < extent.data_end {
-        return truncated(at + HEAD_SIZE);
+        return Err(Fault::Truncated.at(at + HEAD_SIZE));
     }
     if file.len() < extent.meta_at {
-        return truncated(extent.data_end);
+        return Err(Fault::Truncated.at(extent.data_end));
     }
     within(file, extent.meta_at, head.meta_size as usize)
 }
 
 // The name of the block at `at`, if that is a chain, within its data.
-fn chain_name_within(file: &[u8], at: usize, head: Head) -> BoundsAnswer
+fn chain_name_within(file: &[u8], at: usize, head: Head) -> Result<Bounds, Refusal>
     requires { at ≤ largest_file }
-    ensures { bounds_given result ≡ chain_name_within file.now at head }
+    ensures { given result ≡ chain_name_within file.now at head }
 {
     if head.block_type != MODIFIER_CHAIN {
-        return BoundsAnswer::Refused(Refusal {
-            number: OUT_OF_ORDER,
-            place: at,
-        });
+        return Err(Fault::OutOfOrder.at(at));
     }
     let end = extent_of(at, head).data_end;
     if file.len() < end {
-        return truncated(at + HEAD_SIZE);
+        return Err(Fault::Truncated.at(at + HEAD_SIZE));
     }
-    match name_bounds(&file[..end], at + HEAD_SIZE) {
-        BoundsAnswer::Refused(e) => BoundsAnswer::Refused(in_chain(e)),
-        BoundsAnswer::Found(name) => BoundsAnswer::Found(name),
-    }
+    in_chain(name_bounds(&file[..end], at + HEAD_SIZE))
 }
 
 // Where the data of the block at `at` stand.
-pub fn data_bounds(file: &[u8], at: usize) -> BoundsAnswer
-    ensures { bounds_given result ≡ data_bounds file.now at }
+pub fn data_bounds(file: &[u8], at: usize) -> Result<Bounds, Refusal>
+    ensures { given result ≡ data_bounds file.now at }
 {
-    match head_in(file, at) {
-        HeadAnswer::Refused(e) => BoundsAnswer::Refused(e),
-        HeadAnswer::Found(head) => within(file, at + HEAD_SIZE, head.data_size as usize),
-    }
+    let head = head_in(file, at)?;
+    within(file, at + HEAD_SIZE, head.data_size as usize)
 }
 
 // Where the meta data of the block at `at` stand.
-pub fn meta_bounds(file: &[u8], at: usize) -> BoundsAnswer
-    ensures { bounds_given result ≡ meta_bounds file.now at }
+// Kept: like the chain's name in its one `?` and one call; a function over what judges the head is no plainer.
+pub fn meta_bounds(file: &[u8], at: usize) -> Result<Bounds, Refusal>
+    ensures { given result ≡ meta_bounds file.now at }
 {
-    match head_in(file, at) {
-        HeadAnswer::Refused(e) => BoundsAnswer::Refused(e),
-        HeadAnswer::Found(head) => meta_within(file, at, head),
-    }
+    let head = head_in(file, at)?;
+    meta_within(file, at, head)
 }
 
 // Where the name of the chain at `at` stands.
-pub fn chain_name_bounds(file: &[u8], at: usize) -> BoundsAnswer
-    ensures { bounds_given result ≡ chain_name_bounds file.now at }
+pub fn chain_name_bounds(file: &[u8], at: usize) -> Result<Bounds, Refusal>
+    ensures { given result ≡ chain_name_bounds file.now at }
 {
-    match head_in(file, at) {
-        HeadAnswer::Refused(e) => BoundsAnswer::Refused(e),
-        HeadAnswer::Found(head) => chain_name_within(file, at, head),
-    }
+    let head = head_in(file, at)?;
+    chain_name_within(file, at, head)
 }
 
 // The data of the block at `at`.

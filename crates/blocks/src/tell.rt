@@ -1,17 +1,19 @@
 // What is told of a block: a row of five words in a table, and a line of text, each stored as far as there is room.
-ghost use Rattle.std.specs.Prelude.{◌≡◌, ◌*◌, ◌≤◌, length, set};
+ghost use Rattle.std.specs.Prelude.{◌≡◌, ◌*◌, ◌≤◌, length};
 ghost use Rattle.std.proofs.lemmas.List.Edits.{sets};
 ghost use Rattle.fields.specs.Limits.{largest_file};
 ghost use Rattle.blocks.specs.Told.{row_words, line_of, row_width};
 ghost use Rattle.blocks.specs.Inside.{bytes_of, told_with};
 
+use fields::words::put;
 use text::line::{put_decimal, put_hex, put_word};
 
 // Words of a row.
+// Kept: the C interface lends a table of words, so a row is five of them and no struct.
 pub const ROW_WIDTH: usize = 5;
 
 // A block's row: its offset, type, data size, meta data size, and its depth from 0.
-#[derive(Clone, Copy)]
+#[derive(Clone, Copy, Debug, PartialEq, Eq)]
 pub struct Row {
     pub offset: u32,
     pub block_type: u32,
@@ -21,19 +23,10 @@ pub struct Row {
 }
 
 // What has been told: so many blocks, and so many bytes of text.
-#[derive(Drop)]
+#[derive(Clone, Copy, Debug, PartialEq, Eq)]
 pub struct Told {
     pub blocks: usize,
     pub bytes: usize,
-}
-
-// Stores a word where there is room for it.
-fn put(table: &mut [u32], i: usize, value: u32)
-    ensures { table.new ≡ set table.old i value }
-{
-    if i < table.len() {
-        table[i] = value;
-    }
 }
 
 // Stores the row of the block with that number.
@@ -56,11 +49,11 @@ fn put_line(text: &mut [u8], at: usize, row: Row) -> usize
     ensures text_after { text.new ≡ sets text.old at (line_of row) }
 {
     let mut end = at + put_word(text, at, b"block\t");
-    end = end + put_decimal(text, end, row.offset as u64, b'\t');
-    end = end + put_hex(text, end, row.block_type, b'\t');
-    end = end + put_decimal(text, end, row.data_size as u64, b'\t');
-    end = end + put_decimal(text, end, row.meta_size as u64, b'\t');
-    end = end + put_decimal(text, end, row.depth as u64, b'\n');
+    end += put_decimal(text, end, u64::from(row.offset), b'\t');
+    end += put_hex(text, end, row.block_type, b'\t');
+    end += put_decimal(text, end, u64::from(row.data_size), b'\t');
+    end += put_decimal(text, end, u64::from(row.meta_size), b'\t');
+    end += put_decimal(text, end, u64::from(row.depth), b'\n');
     end - at
 }
 
@@ -72,14 +65,13 @@ pub(crate) fn tell(table: &mut [u32], text: &mut [u8], told: Told, row: Row, lin
     ensures text_after { text.new ≡ sets text.old told.bytes (bytes_of lines row) }
 {
     put_row(table, told.blocks, row);
-    let blocks = told.blocks + 1;
-    let bytes = told.bytes;
-    if lines {
-        let size = put_line(text, bytes, row);
-        return Told {
-            blocks,
-            bytes: bytes + size,
-        };
+    let size = if lines {
+        put_line(text, told.bytes, row)
+    } else {
+        0
+    };
+    Told {
+        blocks: told.blocks + 1,
+        bytes: told.bytes + size,
     }
-    Told { blocks, bytes }
 }

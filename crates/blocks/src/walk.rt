@@ -3,23 +3,15 @@ ghost use Rattle.std.specs.Prelude.{◌≡◌, false, ◌-◌, ◌*◌, ◌≤�
 ghost use Rattle.fields.specs.Limits.{largest_file};
 ghost use Rattle.blocks.specs.Block.{levels};
 ghost use Rattle.blocks.specs.Walk.{row_of, file_ends};
-ghost use Rattle.blocks.specs.Chain.{in_chain};
-ghost use Rattle.blocks.specs.Inside.{walk_stored, walked_given, answer_of, filled_of, ToldFits};
+ghost use Rattle.fields.specs.Judged.{given};
+ghost use Rattle.blocks.specs.Inside.{walk_stored, answer_of, filled_of, ToldFits};
 
-use crate::block::{BlockAnswer, LEVELS, block_at};
+use crate::block::{LEVELS, block_at};
 use crate::chain::{Run, in_chain};
 use crate::head::{Head, paddings};
 use crate::kind::{is_chain, is_continuation};
-use crate::padding::Check;
 use crate::tell::{Row, Told, tell};
-use fields::numbers::{BAD_CHAIN, Refusal};
-
-// How a walk ended: with so much told in all, or with a refusal.
-#[derive(Drop)]
-pub enum Walked {
-    Done(Told),
-    Refused(Refusal),
-}
+use fields::refusal::{Fault, Refusal};
 
 // The row of the block at `at`.
 pub(crate) fn row_of(at: usize, head: Head, remaining: u32) -> Row
@@ -39,39 +31,23 @@ pub(crate) fn row_of(at: usize, head: Head, remaining: u32) -> Row
 fn file_ends(at: usize, len: usize, remaining: u32) -> bool
     ensures { result ≡ file_ends at len remaining }
 {
-    if at == len {
-        remaining == LEVELS
-    } else {
-        false
-    }
-}
-
-// The answer to a walk over a chain's contents.
-fn walked_in_chain(inner: Walked) -> Walked
-    ensures { walked_given result ≡ in_chain (walked_given inner) }
-{
-    match inner {
-        Walked::Done(told) => Walked::Done(told),
-        Walked::Refused(e) => Walked::Refused(in_chain(e)),
-    }
+    at == len && remaining == LEVELS
 }
 
 // The answer where all blocks are walked: the last one ends where the bytes end.
-fn filled(at: usize, len: usize, told: Told) -> Walked
-    ensures { walked_given result ≡ filled_of at len told }
+fn filled(at: usize, len: usize, told: Told) -> Result<Told, Refusal>
+    ensures { given result ≡ filled_of at len told }
 {
     if at == len {
-        Walked::Done(told)
+        Ok(told)
     } else {
-        Walked::Refused(Refusal {
-            number: BAD_CHAIN,
-            place: at,
-        })
+        Err(Fault::BadChain.at(at))
     }
 }
 
 // Walks the blocks of `run`, which end where `s` ends; at the top they are as many as there are. `remaining` chains may still be
 // entered, and `before` has been told before.
+// Kept: table, text and lines as parameters. A struct of both borrows needs a clause more for each at every call, and is no plainer.
 pub(crate) fn walk(
     s: &[u8],
     run: Run,
@@ -80,48 +56,31 @@ pub(crate) fn walk(
     text: &mut [u8],
     before: Told,
     lines: bool,
-) -> Walked
+) -> Result<Told, Refusal>
     requires { (run.at ≤ length s.now) × (length s.now ≤ largest_file) × (remaining ≤ levels) × (before.blocks ≤ run.at) × (before.bytes ≤ 9 * run.at) }
-    ensures result_value { walked_given result ≡ answer_of (walk_stored table.old text.old before lines s.now run remaining) }
+    ensures result_value { given result ≡ answer_of (walk_stored table.old text.old before lines s.now run remaining) }
     ensures table_after { table.new ≡ (walk_stored table.old text.old before lines s.now run remaining).table }
     ensures text_after { text.new ≡ (walk_stored table.old text.old before lines s.now run remaining).text }
-    ensures told_fits { ToldFits (length s.now) result }
+    ensures told_fits { ToldFits (length s.now) (given result) }
 {
     let mut at = run.at;
-    let mut left = run.count;
     let mut told = before;
     let mut continued = false;
-    while 0 < left {
+    for _left in (0..run.count).rev() {
         if file_ends(at, s.len(), remaining) {
-            return Walked::Done(told);
+            return Ok(told);
         }
-        let b = match block_at(s, at, remaining, continued) {
-            BlockAnswer::Found(b) => b,
-            BlockAnswer::Refused(e) => {
-                return Walked::Refused(e);
-            }
-        };
-        told = tell(table, text, told, row_of(at, b.head, remaining), lines);
-        let kind = b.kind;
+        let b = block_at(s, at, remaining, continued)?;
         let extent = b.extent;
-        if is_chain(kind) {
-            let end = extent.data_end;
-            let contents = b.contents;
-            let inner = walk(&s[..end], contents, remaining - 1, table, text, told, lines);
-            let Walked::Done(next) = inner else {
-                return walked_in_chain(inner);
-            };
-            told = next;
+        told = tell(table, text, told, row_of(at, b.head, remaining), lines);
+        if is_chain(b.kind) {
+            let inside = &s[..extent.data_end];
+            let inner = walk(inside, b.contents, remaining - 1, table, text, told, lines);
+            told = in_chain(inner)?;
         }
-        match paddings(s, extent) {
-            Check::Fine => {}
-            Check::Refused(e) => {
-                return Walked::Refused(e);
-            }
-        }
+        paddings(s, extent)?;
         at = extent.next;
-        left = left - 1;
-        continued = is_continuation(kind);
+        continued = is_continuation(b.kind);
     }
     filled(at, s.len(), told)
 }

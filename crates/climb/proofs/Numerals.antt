@@ -1,14 +1,14 @@
 -- Digits one by one: a digit more, a byte that is no digit, a number that grew too large. Eight hexadecimal digits stay below 2^32.
 use Prim.Native.Nat.{ℕ, zero, suc, ◌+◌, ◌-◌, ◌*◌, ◌≤◌, ◌<◌}
-use mathlib.Core.Path.{◌≡◌, ◌∙◌, ap, refl, sym}
+use mathlib.Core.Path.{◌≡◌, refl, sym}
 use mathlib.Core.Bool.{Bool, true, false, ◌&&◌}
 use mathlib.Core.List.{List, [], ◌∷◌}
-use mathlib.Core.Logic.{◌⊎◌, inl, inr}
+use mathlib.Core.Logic.{◌⊎◌, inl, inr, ⊎_elim}
 use native.Mathlib.Nat.{mul-le-mul}
 use native.Mathlib.Numerals.{add-one}
 use native.Mathlib.Omega.{arith}
 use borrow.Author.Tests.{eq-eqb, le-leb, le-ltb, lt-leb, lt-ltb, ltb-false, ltb-true, ne_eqb}
-use lib.Dec.{eqb, leb, ltb}
+use lib.Dec.{leb, ltb}
 use lib.ListN.{drop, drop_of_length-le, get_or, length}
 use lib.Seq.{drop-cons}
 use Rattle.fields.specs.Limits.{any_number}
@@ -16,68 +16,61 @@ use Rattle.fields.specs.Judged.{pick}
 use Rattle.text.specs.Digits.{digit_of}
 use Rattle.climb.specs.Digits.{are_digits, digit_value, is_decimal, is_digit, is_pattern, no_leading_zero, value_after, value_of}
 use Rattle.climb.specs.Inside.{is_number, number_if}
-use Rattle.climb.specs.declared.digits.Number.{Number}
-use Rattle.climb.specs.declared.digits.Number.TheVariants.{Bad, Value}
+use Rattle.std.specs.Prelude.{Option, Some, None}
 use Rattle.climb.proofs.Finding.{and-false, and-true}
+
+-- ---- what an answer says of the test
+
+pub value_told_lem : (t : Bool) (v w : ℕ) → number_if t v ≡ Some w → (t ≡ true) × (v ≡ w)
+value_told_lem true v w e = (refl, cc)
+value_told_lem false v w e = let z : ◌≡◌ {A = ℕ} 0 1 = cc in absurd (omega arith)
+
+pub bad_told : (t : Bool) (v : ℕ) → number_if t v ≡ None → t ≡ false
+bad_told true v e = let z : ◌≡◌ {A = ℕ} 0 1 = cc in absurd (omega arith)
+bad_told false v e = refl
 
 -- ---- a digit
 
--- the value of a digit, and 16 for any other byte
-abbrev pub digit_or : ℕ → ℕ
-digit_or b = pick (is_digit 16 b) (digit_value b) 16
+module _ (base b : ℕ) where
+  -- what a byte is worth that writes a digit in some base
+  digit_if : (v : ℕ) → digit_value b ≡ v → digit_of v ≡ b → (t : Bool) → ltb v base ≡ t → number_if t v ≡ number_if (is_digit base b) (digit_value b)
+  digit_if v e f t h = rw (e, f, h, eq-eqb b b refl, and-true)
 
-module _ (b : ℕ) where
-  pub digit_below : b < 0x30 → 16 ≡ digit_or b
-  digit_below h =
-      let z : b - 0x30 ≡ 0 = omega arith in
-      let n : 0x30 ≡ b → ⊥ = λ e. omega arith in
-      rw (lt-ltb b 0x61 (omega arith), z, ne_eqb 0x30 b n)
-
-  pub digit_decimal : 0x30 ≤ b → b < 0x3A → b - 0x30 ≡ digit_or b
+  pub digit_decimal : 0x30 ≤ b → b ≤ 0x39 → (t : Bool) → ltb (b - 0x30) base ≡ t → number_if t (b - 0x30) ≡ number_if (is_digit base b) (digit_value b)
   digit_decimal l h =
       let e : 0x30 + (b - 0x30) ≡ b = omega arith in
-      rw (lt-ltb b 0x61 (omega arith), lt-ltb (b - 0x30) 16 (omega arith), lt-ltb (b - 0x30) 10 (omega arith), eq-eqb _ _ e)
+      digit_if (b - 0x30) (rw (lt-ltb b 0x61 (omega arith))) (rw (lt-ltb (b - 0x30) 10 (omega arith), e))
 
-  pub digit_between : 0x3A ≤ b → b < 0x61 → 16 ≡ digit_or b
-  digit_between l h =
-      let n : 0x57 + (b - 0x30) ≡ b → ⊥ = λ e. omega arith in
-      rw (lt-ltb b 0x61 h, le-ltb (b - 0x30) 10 (omega arith), ne_eqb _ _ n, and-false)
-
-  pub digit_letter : 0x61 ≤ b → b < 0x67 → b - 0x57 ≡ digit_or b
+  pub digit_letter : 0x61 ≤ b → b ≤ 0x66 → (t : Bool) → ltb (b - 0x61 + 10) base ≡ t → number_if t (b - 0x61 + 10) ≡ number_if (is_digit base b) (digit_value b)
   digit_letter l h =
-      let e : 0x57 + (b - 0x57) ≡ b = omega arith in
-      rw (le-ltb b 0x61 l, lt-ltb (b - 0x57) 16 (omega arith), le-ltb (b - 0x57) 10 (omega arith), eq-eqb _ _ e)
+      let e : b - 0x57 ≡ b - 0x61 + 10 = omega arith in
+      let f : 0x57 + (b - 0x61 + 10) ≡ b = omega arith in
+      digit_if (b - 0x61 + 10) (rw (le-ltb b 0x61 l, e)) (rw (le-ltb (b - 0x61 + 10) 10 (omega arith), f))
 
-  pub digit_above : 0x67 ≤ b → 16 ≡ digit_or b
-  digit_above l = rw (le-ltb b 0x61 (omega arith), le-ltb (b - 0x57) 16 (omega arith))
+  digit_not : (v : ℕ) → digit_value b ≡ v → (v < 16 → digit_of v ≡ b → ⊥) → base ≤ 16 → (t : Bool) → ltb v base ≡ t → None ≡ number_if (is_digit base b) (digit_value b)
+  digit_not v e n s true h = rw (e, h, ne_eqb _ _ (n (omega (arith, ltb-true v base h, s))))
+  digit_not v e n s false h = rw (e, h)
 
--- what is known of a digit's value, by its two tests
-told_kept : (small right : Bool) (base v d : ℕ) → small ≡ ltb v 16 → d ≡ pick (small && right) v 16 → d < base → base ≤ 16
-    → (right ≡ true) × (v ≡ d)
-told_kept true true base v d s e h l = (refl, sym e)
-told_kept true false base v d s e h l = absurd (omega arith)
-told_kept false right base v d s e h l = absurd (omega arith)
+  -- a byte that is a digit's stands in one of two ranges
+  digit_by : (v : ℕ) (t : Bool) → ltb v 10 ≡ t → pick t (0x30 + v) (0x57 + v) ≡ b → ((v < 10) × (0x30 + v ≡ b)) ⊎ ((10 ≤ v) × (0x57 + v ≡ b))
+  digit_by v true h e = inl (ltb-true v 10 h, e)
+  digit_by v false h e = inr (ltb-false v 10 h, e)
 
-told_stopped : (small right : Bool) (base v d : ℕ) → small ≡ ltb v 16 → d ≡ pick (small && right) v 16 → base ≤ d → base ≤ 16
-    → (ltb v base && right) ≡ false
-told_stopped true true base v d s e h l = rw (le-ltb v base (omega arith))
-told_stopped true false base v d s e h l = and-false (ltb v base)
-told_stopped false right base v d s e h l = rw (le-ltb v base (omega (arith, ltb-false v 16 (sym s))))
-
-module _ (base b d : ℕ) (small : base ≤ 16) (e : d ≡ digit_or b) where
-  pub digit_kept : d < base → (is_digit base b ≡ true) × (digit_value b ≡ d)
-  digit_kept h =
-      let k = told_kept (ltb (digit_value b) 16) (eqb (digit_of (digit_value b)) b) base (digit_value b) d refl e h small in
-      let v : digit_value b < base = omega (arith, k.1) in
-      (ap (λ (t : Bool). t && eqb (digit_of (digit_value b)) b) (lt-ltb _ _ v) ∙ k.0, k.1)
-
-  pub digit_stopped : base ≤ d → is_digit base b ≡ false
-  digit_stopped h = told_stopped (ltb (digit_value b) 16) (eqb (digit_of (digit_value b)) b) base (digit_value b) d refl e h small
+  pub digit_none : (0x30 ≤ b → b ≤ 0x39 → ⊥) → (0x61 ≤ b → b ≤ 0x66 → ⊥) → base ≤ 16 → None ≡ number_if (is_digit base b) (digit_value b)
+  digit_none n m s = none_by (ltb b 0x61) refl
+    where
+      none_by : (t : Bool) → ltb b 0x61 ≡ t → None ≡ number_if (is_digit base b) (digit_value b)
+      none_by true h =
+          let l : b < 0x61 = ltb-true b 0x61 h in
+          digit_not (b - 0x30) (rw h) (λ k e. ⊎_elim (λ q. n (omega (arith, q)) (omega (arith, q))) (λ q. omega (arith, q, l)) (digit_by (b - 0x30) (ltb (b - 0x30) 10) refl e)) s (ltb (b - 0x30) base) refl
+      none_by false h =
+          let l : 0x61 ≤ b = ltb-false b 0x61 h in
+          digit_not (b - 0x57) (rw h) (λ k e. ⊎_elim (λ q. omega (arith, q, l)) (λ q. m l (omega (arith, q, k))) (digit_by (b - 0x57) (ltb (b - 0x57) 10) refl e)) s (ltb (b - 0x57) base) refl
 
 -- ---- a number
 
 -- the number that the digits write after those that write `high`
-abbrev pub number_after : ℕ → ℕ → List ℕ → Number
+abbrev pub number_after : ℕ → ℕ → List ℕ → Option ℕ
 number_after base high digits = number_if (are_digits base digits && leb (value_after base high digits) any_number) (value_after base high digits)
 
 value_grows : (base high : ℕ) (digits : List ℕ) → 0 < base → high ≤ value_after base high digits
@@ -88,34 +81,35 @@ value_grows base high (b ∷ more) h =
     let m : high * 1 ≤ high * base = mul-le-mul same h in
     omega (arith, value_grows base (high * base + digit_value b) more h)
 
-module _ (base : ℕ) (digits : List ℕ) (i high d : ℕ) (small : base ≤ 16) (within : i < length digits) (e : d ≡ digit_or (get_or digits i 0)) where
-  pub number_more : d < base → number_after base high (drop i digits) ≡ number_after base (high * base + d) (drop (i + 1) digits)
+module _ (base : ℕ) (digits : List ℕ) (i high : ℕ) (within : i < length digits) where
+  pub number_more : (d : ℕ) → Some d ≡ number_if (is_digit base (get_or digits i 0)) (digit_value (get_or digits i 0))
+      → number_after base high (drop i digits) ≡ number_after base (high * base + d) (drop (i + 1) digits)
   unfolding are_digits value_after
-  number_more h =
-      let k = digit_kept base (get_or digits i 0) d small e h in
+  number_more d e =
+      let k = value_told_lem _ _ _ (sym e) in
       rw (drop-cons digits i 0 within, are_digits, value_after, k.0, k.1, add-one)
 
-  pub number_stopped : base ≤ d → number_after base high (drop i digits) ≡ Bad
+  pub number_stopped : None ≡ number_if (is_digit base (get_or digits i 0)) (digit_value (get_or digits i 0)) → number_after base high (drop i digits) ≡ None
   unfolding are_digits value_after
-  number_stopped h = rw (drop-cons digits i 0 within, are_digits, value_after, digit_stopped base (get_or digits i 0) d small e h)
+  number_stopped e = rw (drop-cons digits i 0 within, are_digits, value_after, bad_told _ _ (sym e))
 
-pub number_large : (base high : ℕ) (digits : List ℕ) → 0 < base → any_number < high → number_after base high digits ≡ Bad
+pub number_large : (base high : ℕ) (digits : List ℕ) → 0 < base → any_number < high → number_after base high digits ≡ None
 number_large base high digits h l =
     let g = value_grows base high digits h in
     rw (lt-leb (value_after base high digits) any_number (omega arith), and-false)
 
-pub number_none : (base high i : ℕ) (digits : List ℕ) → high ≤ any_number → length digits ≤ i → Value high ≡ number_after base high (drop i digits)
+pub number_none : (base high i : ℕ) (digits : List ℕ) → high ≤ any_number → length digits ≤ i → Some high ≡ number_after base high (drop i digits)
 unfolding are_digits value_after
 number_none base high i digits h l = rw (drop_of_length-le digits l, are_digits, value_after, le-leb high any_number h)
 
 -- ---- decimals and bit patterns
 
 module _ (field : List ℕ) where
-  pub decimal_empty : length field ≡ 0 → Bad ≡ number_if (is_decimal field) (value_of 10 field)
+  pub decimal_empty : length field ≡ 0 → None ≡ number_if (is_decimal field) (value_of 10 field)
   unfolding is_decimal
   decimal_empty e = rw (le-ltb 0 (length field) (omega arith))
 
-  pub decimal_zero : get_or field 0 0 ≡ 0x30 → 1 < length field → Bad ≡ number_if (is_decimal field) (value_of 10 field)
+  pub decimal_zero : get_or field 0 0 ≡ 0x30 → 1 < length field → None ≡ number_if (is_decimal field) (value_of 10 field)
   unfolding is_decimal
   decimal_zero e h = rw (lt-ltb 0 (length field) (omega arith), eq-eqb _ _ e, lt-ltb 1 (length field) h, and-false)
 
@@ -159,20 +153,10 @@ eight_small field e true f =
 eight_small field e false f = refl
 
 module _ (field : List ℕ) where
-  pub pattern_other : (length field ≡ 8 → ⊥) → Bad ≡ number_if (is_pattern field) (value_of 16 field)
+  pub pattern_other : (length field ≡ 8 → ⊥) → None ≡ number_if (is_pattern field) (value_of 16 field)
   unfolding is_pattern
   pattern_other n = rw (ne_eqb _ _ n)
 
   pub pattern_eight : length field ≡ 8 → number_if (is_number 16 field) (value_of 16 field) ≡ number_if (is_pattern field) (value_of 16 field)
   unfolding is_pattern
   pattern_eight e = rw (eq-eqb _ _ e, eight_small field e (are_digits 16 field) refl)
-
--- ---- what an answer says of the test
-
-pub value_told_lem : (t : Bool) (v w : ℕ) → number_if t v ≡ Value w → (t ≡ true) × (v ≡ w)
-value_told_lem true v w e = (refl, cc)
-value_told_lem false v w e = let z : ◌≡◌ {A = ℕ} 0 1 = cc in absurd (omega arith)
-
-pub bad_told : (t : Bool) (v : ℕ) → number_if t v ≡ Bad → t ≡ false
-bad_told true v e = let z : ◌≡◌ {A = ℕ} 0 1 = cc in absurd (omega arith)
-bad_told false v e = refl

@@ -3,7 +3,6 @@ use Prim.Native.Nat.{ℕ, zero, suc, ◌+◌, ◌-◌, ◌≤◌, ◌<◌}
 use mathlib.Core.Path.{◌≡◌, ◌∙◌, ap, refl, sym}
 use mathlib.Core.Bool.{true, false}
 use mathlib.Core.List.{List, [], ◌∷◌, ◌++◌}
-use native.Mathlib.Numerals.{add-one}
 use native.Mathlib.Omega.{arith}
 use lib.ListN.{drop, length, length-append, set}
 use lib.Seq.{set_comm, sets}
@@ -12,12 +11,11 @@ use Rattle.fields.specs.Numbers.{bad_steps}
 use Rattle.fields.specs.Limits.{most_moves, most_new_faces}
 use Rattle.fields.proofs.Judging.{refusal_before, same_done, value_before}
 use Rattle.fields.proofs.Stores.{sets_append}
-use Rattle.climb.specs.Lines.{Form, row_from, starts_with}
+use Rattle.climb.specs.Lines.{Form, Row, row_from, starts_with}
 use Rattle.climb.specs.Climb.{Taken, face_form, items_from, move_form, none_taken, row_taken, rows_from, split_form, step_from}
-use Rattle.climb.specs.Inside.{Stored, stored, taken_given}
-use Rattle.climb.specs.declared.steps.Place.{Place}
-use Rattle.climb.specs.declared.steps.Taken as taken
-use Rattle.climb.proofs.Lines.{RowTold}
+use Rattle.climb.specs.Inside.{Stored, stored}
+use Rattle.climb.specs.declared.line.Place.{Place}
+use Rattle.climb.proofs.Lines.{row_length}
 
 -- nothing more
 stored_none : (count : ℕ) (table : List ℕ) (to line : ℕ) (text : List ℕ)
@@ -49,12 +47,12 @@ pub record TakenTold (text : List ℕ) (j : Judged Taken) (table : List ℕ) (to
   pub lined : (taken).line ≡ next.line
   pub goes_on : (taken).rest ≡ drop next.at text
 
-module _ (text : List ℕ) (j : Judged Taken) (table : List ℕ) (to : ℕ) (after : List ℕ) (r : taken.Taken)
-    (e : taken_given text r after ≡ stored 0 table to j) where
-  pub taken_told : (count : ℕ) (next : Place) → r ≡ taken.TheVariants.Read count next → TakenTold text j table to count next after
-  taken_told count next f =
-      let g = value_before j _ (record { count = count; table = after; to = next.to; line = next.line; rest = drop next.at text })
-      (sym e ∙ ap (λ (x : taken.Taken). taken_given text x after) f) in
+module _ (text : List ℕ) (j : Judged Taken) (table : List ℕ) (to : ℕ) where
+  pub taken_told : (after : List ℕ) (count : ℕ) (next : Place)
+      → ◌≡◌ {A = Judged Stored} (done (record { count = count; table = after; to = next.to; line = next.line; rest = drop next.at text })) (stored 0 table to j)
+      → TakenTold text j table to count next after
+  taken_told after count next e =
+      let g = value_before j _ (record { count = count; table = after; to = next.to; line = next.line; rest = drop next.at text }) (sym e) in
       let s = same_done g.2 in
       let none : 0 + g.0.count ≡ g.0.count = omega arith in
       record {
@@ -67,8 +65,31 @@ module _ (text : List ℕ) (j : Judged Taken) (table : List ℕ) (to : ℕ) (aft
         goes_on = ap (λ (x : Stored). x.rest) s;
       }
 
-  pub taken_refused : (line : ℕ) → r ≡ taken.TheVariants.Bad line → j ≡ refused bad_steps line
-  taken_refused line f = refusal_before j _ bad_steps line (sym e ∙ ap (λ (x : taken.Taken). taken_given text x after) f)
+  pub taken_refused : (m p : ℕ) → refused m p ≡ stored 0 table to j → j ≡ refused m p
+  taken_refused m p e = refusal_before j _ m p (sym e)
+
+-- a line that was read: its numbers are stored, and the text goes on after it
+pub record RowTold (text : List ℕ) (form : Form) (line at to : ℕ) (next : Place) (table after : List ℕ) : Type 0 where
+  pub row : Row
+  pub read : row_from form line (drop at text) ≡ done row
+  pub stored-values : after ≡ sets table to (row).values
+  pub goes_on : (row).rest ≡ drop next.at text
+  pub lined : suc line ≡ next.line
+  pub long : length (row).values ≡ length form.rules
+
+pub row_told : {text : List ℕ} {form : Form} {line at to : ℕ} {next : Place} {table after : List ℕ}
+    → TakenTold text (row_taken form line (drop at text)) table to 1 next after → RowTold text form line at to next table after
+row_told {text} {form} {line} {at} {to} {next} {table} t =
+    let g = value_before (row_from form line (drop at text)) _ t.taken t.read in
+    let s = same_done g.2 in
+    record {
+      row = g.0;
+      read = g.1;
+      stored-values = t.stored_words ∙ ap (λ (x : Taken). sets table to x.words) (sym s);
+      goes_on = ap (λ (x : Taken). x.rest) s ∙ t.goes_on;
+      lined = ap (λ (x : Taken). x.line) s ∙ t.lined;
+      long = row_length form line (drop at text) g.0 g.1;
+    }
 
 -- ---- rows or steps, one by one
 
@@ -92,10 +113,10 @@ module _ (word : List ℕ) (item : ℕ → List ℕ → Judged Taken) (text : Li
         let k : most - count ≡ 0 = omega arith in
         rw (k, items_from, e)
 
-    pub items_bad : (bad : ℕ) → count < most → item line (drop at text) ≡ refused bad_steps bad
-        → stored count table to (items_from word item (most - count) line (drop at text)) ≡ refused bad_steps bad
+    pub items_bad : (m p : ℕ) → count < most → item line (drop at text) ≡ refused m p
+        → stored count table to (items_from word item (most - count) line (drop at text)) ≡ refused m p
     unfolding items_from
-    items_bad bad h f =
+    items_bad m p h f =
         let k : most - count ≡ suc (most - (count + 1)) = omega arith in
         rw (k, items_from, e, f)
 
@@ -107,22 +128,6 @@ module _ (word : List ℕ) (item : ℕ → List ℕ → Judged Taken) (text : Li
         let k : most - count ≡ suc (most - (count + 1)) = omega arith in
         rw (k, items_from, e, f.read, f.goes_on, f.lined, f.stored_words, f.moved)
         (stored_more (items_from word item (most - (count + 1)) next.line (drop next.at text)) count table to f.taken.words)
-
--- ---- a row
-
--- a line that was read is one row of that width
-pub row_taken_lem : {text : List ℕ} {form : Form} {line at to next : ℕ} {table after : List ℕ} (width : ℕ) → length form.rules ≡ width
-    → RowTold text form line at to next table after
-    → TakenTold text (row_taken form line (drop at text)) table to 1 (record { at = next; line = line + 1; to = to + width }) after
-row_taken_lem {line = line} {to = to} width w f = record {
-  taken = record { count = 1; words = f.row.values; line = suc line; rest = f.row.rest };
-  read = rw f.read;
-  counted = refl;
-  stored_words = f.stored-values;
-  moved = ap (λ (k : ℕ). to + k) (sym (f.long ∙ w));
-  lined = sym (add-one line);
-  goes_on = f.goes_on;
-}
 
 -- ---- a step
 
@@ -156,23 +161,22 @@ step_stored table to m n vs ms fs h =
     ∙ ap (λ (k : ℕ). sets (set (set t (to + 4) m) (to + 5) n) k (ms ++ fs)) six)
 
 module _ (text : List ℕ) (line at to : ℕ) (table : List ℕ) where
-  pub step_unsplit : row_from split_form line (drop at text) ≡ refused bad_steps line
-      → refused bad_steps line ≡ stored 0 table to (step_from line (drop at text))
+  pub step_unsplit : (m p : ℕ) → row_taken split_form line (drop at text) ≡ refused m p → refused m p ≡ stored 0 table to (step_from line (drop at text))
   unfolding step_from
-  step_unsplit e = rw e
+  step_unsplit m p e = rw (step_from, refusal_before (row_from split_form line (drop at text)) _ m p e)
 
-  module _ (next : ℕ) (t : List ℕ) (s : RowTold text split_form line at to next table t) where
-    pub step_unmoved : (bad : ℕ) → rows_from move_form most_moves (line + 1) (drop next text) ≡ refused bad_steps bad
-        → refused bad_steps bad ≡ stored 0 table to (step_from line (drop at text))
+  module _ (split : Place) (t : List ℕ) (s : RowTold text split_form line at to split table t) where
+    pub step_unmoved : (m p : ℕ) → rows_from move_form most_moves split.line (drop split.at text) ≡ refused m p
+        → refused m p ≡ stored 0 table to (step_from line (drop at text))
     unfolding step_from
-    step_unmoved bad e = rw (s.read, s.goes_on, rw (add-one line) at e)
+    step_unmoved m p e = rw (step_from, s.read, s.goes_on, s.lined, e)
 
     module _ (moves : ℕ) (second : Place) (t' : List ℕ)
-        (m : TakenTold text (rows_from move_form most_moves (line + 1) (drop next text)) t (to + 6) moves second t') where
-      pub step_unfaced : (bad : ℕ) → rows_from face_form most_new_faces second.line (drop second.at text) ≡ refused bad_steps bad
-          → refused bad_steps bad ≡ stored 0 table to (step_from line (drop at text))
+        (m : TakenTold text (rows_from move_form most_moves split.line (drop split.at text)) t (to + 6) moves second t') where
+      pub step_unfaced : (n p : ℕ) → rows_from face_form most_new_faces second.line (drop second.at text) ≡ refused n p
+          → refused n p ≡ stored 0 table to (step_from line (drop at text))
       unfolding step_from
-      step_unfaced bad e = rw (s.read, s.goes_on, rw (add-one line) at m.read, m.lined, m.goes_on, e)
+      step_unfaced n p e = rw (step_from, s.read, s.goes_on, s.lined, m.read, m.lined, m.goes_on, e)
 
       pub step_done : (faces : ℕ) (last : Place) (t'' after : List ℕ)
           → TakenTold text (rows_from face_form most_new_faces second.line (drop second.at text)) t' second.to faces last t''
@@ -184,7 +188,7 @@ module _ (text : List ℕ) (line at to : ℕ) (table : List ℕ) where
           let long : length s.row.values ≡ 4 = s.long in
           let words = length-append s.row.values (moves ∷ faces ∷ (m.taken.words ++ f.taken.words)) in
           let more = length-append m.taken.words f.taken.words in
-          rw (s.read, s.goes_on, rw (add-one line) at m.read, m.lined, m.goes_on, f.read, m.counted, f.counted)
+          rw (step_from, s.read, s.goes_on, s.lined, m.read, m.lined, m.goes_on, f.read, m.counted, f.counted)
           (same-stored refl
           (e ∙ rw (f.stored_words, m.stored_words, s.stored-values, m.moved)
           (step_stored table to moves faces s.row.values m.taken.words f.taken.words long))

@@ -3,9 +3,8 @@
 use Rattle.std.specs.Prelude.{ℕ, zero, suc, Bool, true, false, not, List, [], ◌∷◌, ◌++◌, drop, length}
 use Rattle.fields.specs.Limits.{any_number, largest_count, most_steps, most_moves, most_new_faces}
 use Rattle.fields.specs.Numbers.{bad_steps}
-use Rattle.fields.specs.Judged.{Judged, done, refused, refused_by, on_done, pick, refused_if, room_for}
+use Rattle.fields.specs.Judged.{Judged, done, refused, on_done, pick, refused_if, room_for}
 use Rattle.climb.specs.Lines.{Form, Rule, decimal, pattern, row_from, starts_with}
-use Rattle.climb.specs.declared.ClimbRead as climb
 
 -- ---- the forms of the lines
 
@@ -102,11 +101,7 @@ climb_of text =
 unfoldable pub climb_in : List ℕ → List ℕ → Judged (List ℕ)
 climb_in text table = on_done (climb_of text) λ words. room_for words table words
 
--- 01's number and place, or how many words were written, of each case
-abbrev pub climb_given : climb.ClimbRead → Judged ℕ
-climb_given (climb.TheVariants.Read words) = done words
-climb_given (climb.TheVariants.Refused e) = refused_by e
-
+-- how many words are written
 abbrev pub word_count : Judged (List ℕ) → Judged ℕ
 word_count judged = on_done judged λ words. done (length words)
 

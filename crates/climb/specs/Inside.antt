@@ -1,28 +1,32 @@
 -- Inside the crate: what its private functions promise. No public promise cites this file.
-use Rattle.std.specs.Prelude.{ℕ, zero, suc, ◌+◌, ◌-◌, ◌*◌, ◌≤◌, ◌≡◌, Bool, true, false, ◌&&◌, not, List, [], ◌∷◌, eqb, leb, ltb, drop, get_or, length, take}
+use Rattle.std.specs.Prelude.{ℕ, suc, ◌+◌, ◌-◌, ◌≤◌, ◌<◌, ◌≡◌, Bool, true, false, ◌&&◌, not, List, leb, ltb, drop, length, map, take, Option, Some, None, Result, Ok, Err}
 use Rattle.std.proofs.lemmas.List.Edits.{sets}
 use Rattle.fields.specs.Limits.{any_number}
-use Rattle.fields.specs.Numbers.{bad_steps}
-use Rattle.fields.specs.Judged.{Judged, done, refused, on_done, pick, refused_if}
+use Rattle.fields.specs.Numbers.{bad_steps, fault_number}
+use Rattle.fields.specs.Judged.{Judged, done, refused, on_done, refused_if}
+use Rattle.fields.specs.declared.refusal.Refusal.{Refusal}
 use Rattle.climb.specs.Digits.{are_digits, value_of}
-use Rattle.climb.specs.Lines.{Form, Row, Rule, decimal, pattern, fields_after, has, past, until, row_from}
+use Rattle.climb.specs.Lines.{Form, Rule, decimal, pattern, fields_after, has, past, until, row_from}
 use Rattle.climb.specs.Climb.{Taken, end_form, is_empty}
-use Rattle.climb.specs.declared.digits.Number as number
-use Rattle.climb.specs.declared.line.FieldRule.{FieldRule}
-use Rattle.climb.specs.declared.line.Row as row
-use Rattle.climb.specs.declared.steps.Place.{Place}
+use Rattle.climb.specs.declared.line.FieldRule as rule
+use Rattle.climb.specs.declared.line.Form as form
+use Rattle.climb.specs.declared.line.Place.{Place}
 use Rattle.climb.specs.declared.steps.Taken as taken
-use Rattle.climb.specs.declared.steps.Words as words
 
 -- ---- bytes
 
 -- r is the index of the next such byte from `from` on, or the length
-pub record Found (stop : ℕ) (s : List ℕ) (from r : ℕ) : Type 0 where
+pub record FoundAt (stop : ℕ) (s : List ℕ) (from r : ℕ) : Type 0 where
   pub low : from ≤ r
   pub high : r ≤ length s
   pub before_it : until stop (drop from s) ≡ take (r - from) (drop from s)
   pub there : has stop (drop from s) ≡ ltb r (length s)
   pub after_it : past stop (drop from s) ≡ drop (r + 1) s
+
+-- the next such byte's index, or that there is none
+abbrev pub Found : ℕ → List ℕ → ℕ → Option ℕ → Type 0
+Found stop s from (Some r) = (r < length s) × FoundAt stop s from r
+Found stop s from None = FoundAt stop s from (length s)
 
 -- ---- numbers
 
@@ -31,31 +35,31 @@ abbrev pub is_number : ℕ → List ℕ → Bool
 is_number base digits = are_digits base digits && leb (value_of base digits) any_number
 
 -- the number where the test holds
-abbrev pub number_if : Bool → ℕ → number.Number
-number_if true v = number.TheVariants.Value v
-number_if false v = number.TheVariants.Bad
+abbrev pub number_if : Bool → ℕ → Option ℕ
+number_if true v = Some v
+number_if false v = None
+
+-- ---- refusals
+
+-- 01's number and place of a refusal, for a judgement of any type
+abbrev pub refusal_given : {A : Type 0} → Refusal → Judged A
+refusal_given e = refused (fault_number e.fault) e.place
 
 -- ---- fields and lines
 
-abbrev pub number_given : ℕ → number.Number → Judged ℕ
-number_given line (number.TheVariants.Value v) = done v
-number_given line number.TheVariants.Bad = refused bad_steps line
+abbrev pub number_given : ℕ → Option ℕ → Judged ℕ
+number_given line (Some v) = done v
+number_given line None = refused bad_steps line
 
--- rule i of a table of three numbers a rule
-abbrev pub rule_row : List ℕ → ℕ → FieldRule
-rule_row rules i = record { base = get_or rules (3 * i) 0; least = get_or rules (3 * i + 1) 0; most = get_or rules (3 * i + 2) 0 }
+abbrev pub rule_of : rule.FieldRule → Rule
+rule_of (rule.TheVariants.Decimal least most) = decimal least most
+rule_of rule.TheVariants.Pattern = pattern
 
-abbrev pub rule_of : FieldRule → Rule
-rule_of rule = pick (eqb rule.base 16) pattern (decimal rule.least rule.most)
+abbrev pub rules_of : List rule.FieldRule → List Rule
+rules_of = map rule_of
 
--- n rules from rule i on
-unfoldable pub rules_from : List ℕ → ℕ → ℕ → List Rule
-rules_from rules i zero = []
-rules_from rules i (suc n) = rule_of (rule_row rules i) ∷ rules_from rules (suc i) n
-
--- the form of a line with that first field and `count` numbers
-abbrev pub form_of : List ℕ → List ℕ → ℕ → Form
-form_of word rules count = record { word = word; rules = rules_from rules 0 count }
+abbrev pub form_of : form.Form → Form
+form_of f = record { word = f.word.now; rules = rules_of f.rules.now }
 
 -- what a table holds where a line's numbers keep their rules
 abbrev pub fields_given : ℕ → Bool → List ℕ → Judged (List ℕ)
@@ -68,21 +72,6 @@ stored_fields table to fields = on_done fields λ values. done (sets table to va
 abbrev pub FieldsRead : List ℕ → List Rule → List ℕ → ℕ → Bool → List ℕ → Type 0
 FieldsRead fields rules table to r after = (line : ℕ) → fields_given line r after ≡ stored_fields table to (fields_after line rules fields)
 
--- a table with a line's numbers, and the text after the line
-abbrev pub row_given : List ℕ → ℕ → row.Row → List ℕ → Judged Row
-row_given text line (row.TheVariants.Next at) table = done (record { values = table; rest = drop at text })
-row_given text line row.TheVariants.Bad table = refused bad_steps line
-
-abbrev pub stored_row : List ℕ → ℕ → Judged Row → Judged Row
-stored_row table to j = on_done j λ row. done (record { values = sets table to row.values; rest = row.rest })
-
-abbrev pub RowRead : List ℕ → ℕ → Form → List ℕ → ℕ → row.Row → List ℕ → Type 0
-RowRead text at form table to r after = (line : ℕ) → row_given text line r after ≡ stored_row table to (row_from form line (drop at text))
-
-abbrev pub RowWithin : List ℕ → row.Row → Type 0
-RowWithin text (row.TheVariants.Next at) = at ≤ length text
-RowWithin text row.TheVariants.Bad = Unit {0}
-
 -- ---- rows and steps
 
 -- so many rows or steps, the table with their words, its next word, the next line's number, and the text after them
@@ -93,10 +82,15 @@ pub record Stored : Type 0 where
   pub line : ℕ
   pub rest : List ℕ
 
-abbrev pub taken_given : List ℕ → taken.Taken → List ℕ → Judged Stored
-taken_given text (taken.TheVariants.Read count next) table =
-    done (record { count = count; table = table; to = next.to; line = next.line; rest = drop next.at text })
-taken_given text (taken.TheVariants.Bad line) table = refused bad_steps line
+-- one row or step
+abbrev pub place_given : List ℕ → Result Place Refusal → List ℕ → Judged Stored
+place_given text (Ok next) table = done (record { count = 1; table = table; to = next.to; line = next.line; rest = drop next.at text })
+place_given text (Err e) table = refusal_given e
+
+abbrev pub taken_given : List ℕ → Result taken.Taken Refusal → List ℕ → Judged Stored
+taken_given text (Ok t) table =
+    done (record { count = t.count; table = table; to = (t.next).to; line = (t.next).line; rest = drop (t.next).at text })
+taken_given text (Err e) table = refusal_given e
 
 -- what was taken, after `count` others, stored from index `to` on
 abbrev pub stored : ℕ → List ℕ → ℕ → Judged Taken → Judged Stored
@@ -108,15 +102,20 @@ stored count table to j =
 abbrev pub Within : List ℕ → ℕ → ℕ → Place → Type 0
 Within text line to place = (place.at ≤ length text) × (place.line ≤ line) × (place.to ≤ to)
 
-abbrev pub TakenWithin : List ℕ → ℕ → ℕ → taken.Taken → Type 0
-TakenWithin text line to (taken.TheVariants.Read count next) = Within text line to next
-TakenWithin text line to (taken.TheVariants.Bad bad) = Unit {0}
+-- the place after a row of so many numbers
+abbrev pub RowWithin : List ℕ → ℕ → Place → Result Place Refusal → Type 0
+RowWithin text width from (Ok next) = (next.at ≤ length text) × (next.line ≡ from.line + 1) × (next.to ≡ from.to + width)
+RowWithin text width from (Err e) = Unit {0}
+
+abbrev pub PlaceWithin : List ℕ → ℕ → ℕ → Result Place Refusal → Type 0
+PlaceWithin text line to (Ok next) = Within text line to next
+PlaceWithin text line to (Err e) = Unit {0}
+
+abbrev pub TakenWithin : List ℕ → ℕ → ℕ → Result taken.Taken Refusal → Type 0
+TakenWithin text line to (Ok t) = Within text line to t.next
+TakenWithin text line to (Err e) = Unit {0}
 
 -- ---- the whole text
-
-abbrev pub end_given : words.Words → Judged ℕ
-end_given (words.TheVariants.Count n) = done n
-end_given (words.TheVariants.Bad line) = refused bad_steps line
 
 -- the last line, and none after it: then there are `n` words
 unfoldable pub end_from : ℕ → ℕ → List ℕ → ℕ → Judged ℕ
@@ -129,9 +128,9 @@ pub record Written : Type 0 where
   pub words : ℕ
   pub table : List ℕ
 
-abbrev pub text_given : words.Words → List ℕ → Judged Written
-text_given (words.TheVariants.Count n) table = done (record { words = n; table = table })
-text_given (words.TheVariants.Bad line) table = refused bad_steps line
+abbrev pub text_given : Result ℕ Refusal → List ℕ → Judged Written
+text_given (Ok n) table = done (record { words = n; table = table })
+text_given (Err e) table = refusal_given e
 
 abbrev pub stored_text : List ℕ → Judged (List ℕ) → Judged Written
 stored_text table j = on_done j λ words. done (record { words = length words; table = sets table 0 words })

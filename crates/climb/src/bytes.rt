@@ -2,17 +2,15 @@
 ghost use Rattle.std.specs.Prelude.{◌≡◌, ◌≤◌, length};
 ghost use Rattle.climb.specs.Inside.{Found};
 
-// The index of the next such byte from `from` on, or the length where there is none.
-pub(crate) fn find(s: &[u8], from: usize, stop: u8) -> usize
+// The index of the next such byte from `from` on; none where there is no more.
+pub(crate) fn find(s: &[u8], from: usize, stop: u8) -> Option<usize>
     requires { from ≤ length s.now }
     ensures { Found stop s.now from result }
 {
-    let mut i = from;
-    while i < s.len() {
+    for i in from..s.len() {
         if s[i] == stop {
-            return i;
+            return Some(i);
         }
-        i = i + 1;
     }
-    i
+    None
 }

@@ -1,132 +1,98 @@
 // The calls of a word, made in turn.
 use crate::print::{print_end, print_progress, print_step};
-use crate::word::{Asked, asked_at, byte_at, call_count};
-use progressive::counts::{Counts, Stepped};
-use progressive::refine::{coarsen, refine};
-use progressive::requests::{Progress, take_request};
+use crate::word::{Ask, first_ask, is_walk};
+use fields::refusal::Fault;
+use progressive::counts::Counts;
+use progressive::refine::{Direction, coarsen, refine};
+use progressive::requests::{Progress, StepRequest, take_request};
 use std::io;
 
-// Directions of a request.
-const UP: u32 = 0;
+// A mesh that is climbed: its list of steps, its shading count and its tables.
+#[derive(Drop)]
+pub struct Climb<'a> {
+    pub steps: &'a [u32],
+    pub shadings: u32,
+    pub faces: &'a mut [u32],
+    pub positions: &'a mut [u32],
+}
 
-const DOWN: u32 = 1;
+impl Climb<'_> {
+    // One step.
+    fn step(&mut self, direction: Direction, counts: Counts) -> Result<Counts, Fault> {
+        let faces = &mut *self.faces;
+        let positions = &mut *self.positions;
+        match direction {
+            Direction::Up => refine(self.steps, self.shadings, faces, positions, counts),
+            Direction::Down => coarsen(self.steps, self.shadings, faces, positions, counts),
+        }
+    }
 
-fn step(
-    letter: u8,
-    steps: &[u32],
-    shadings: u32,
-    faces: &mut [u32],
-    positions: &mut [u32],
-    counts: Counts,
-) -> Stepped {
-    if letter == b'u' {
-        refine(steps, shadings, faces, positions, counts)
-    } else {
-        coarsen(steps, shadings, faces, positions, counts)
+    // The steps of one request.
+    fn request(&mut self, request: StepRequest, progress: Progress) -> Progress {
+        let faces = &mut *self.faces;
+        let positions = &mut *self.positions;
+        take_request(
+            request,
+            self.steps,
+            self.shadings,
+            faces,
+            positions,
+            progress,
+        )
     }
 }
 
-// Takes one step, prints its answer, and hands out the counts after it.
+// Takes one step, prints its answer, and hands out the counts after it; those before where it is refused.
 fn print_call(
     rt: &impl Print,
-    letter: u8,
-    steps: &[u32],
-    shadings: u32,
-    faces: &mut [u32],
-    positions: &mut [u32],
+    climb: &mut Climb,
+    direction: Direction,
     counts: Counts,
 ) -> io::Result<Counts> {
-    let stepped = step(letter, steps, shadings, faces, positions, counts);
-    print_step(rt, letter, &stepped)?;
-    match stepped {
-        Stepped::Done(after) => Ok(after),
-        Stepped::Refused(_, before) => Ok(before),
-    }
+    let stepped = climb.step(direction, counts);
+    let after = stepped.unwrap_or(counts);
+    print_step(rt, direction, stepped.err(), after)?;
+    Ok(after)
 }
 
-fn direction_of(letter: u8) -> u32 {
-    if letter == b'u' {
-        return UP;
-    }
-    DOWN
-}
-
-// A walk that has taken no request.
-fn walk_from(counts: Counts) -> Progress {
-    Progress {
-        number: 0,
-        granted: 0,
-        positions: counts.positions,
-        faces: counts.faces,
-    }
-}
-
-fn counts_of(progress: Progress) -> Counts {
-    Counts {
-        positions: progress.positions,
-        faces: progress.faces,
-    }
-}
-
-// Prints what a walk has come to; what follows starts from its counts.
-fn end_walk(rt: &impl Print, progress: Progress) -> io::Result<Progress> {
-    print_progress(rt, &progress)?;
-    Ok(walk_from(counts_of(progress)))
-}
-
-// Does what the byte at a place asks for.
+// Does what a letter asks for. The walk that ends here is printed; what follows starts from its counts.
 fn follow(
     rt: &impl Print,
-    word: &[u8],
-    at: usize,
-    steps: &[u32],
-    shadings: u32,
-    faces: &mut [u32],
-    positions: &mut [u32],
+    climb: &mut Climb,
+    ask: Ask,
+    goes_on: bool,
     progress: Progress,
 ) -> io::Result<Progress> {
-    let letter = byte_at(word, at);
-    match asked_at(word, at) {
-        Asked::Step => {
-            let counts = counts_of(progress);
-            let after = print_call(rt, letter, steps, shadings, faces, positions, counts)?;
-            Ok(walk_from(after))
-        }
-        Asked::Request(count) => {
-            let direction = direction_of(letter);
-            Ok(take_request(
-                direction, count, steps, shadings, faces, positions, progress,
-            ))
-        }
-        Asked::WalkEnd => end_walk(rt, progress),
-        _ => Ok(progress),
+    let Some(count) = ask.count else {
+        let after = print_call(rt, climb, ask.direction, progress.counts)?;
+        return Ok(Progress::from(after));
+    };
+    let direction = u32::from(ask.direction);
+    let progress = climb.request(StepRequest { direction, count }, progress);
+    if goes_on {
+        return Ok(progress);
     }
+    print_progress(rt, progress)?;
+    Ok(Progress::from(progress.counts))
 }
 
 // Makes the calls in turn.
 pub(crate) fn print_calls(
     rt: &impl Print,
     word: &[u8],
-    steps: &[u32],
-    shadings: u32,
-    faces: &mut [u32],
-    positions: &mut [u32],
+    climb: &mut Climb,
     counts: Counts,
 ) -> io::Result<()> {
-    let mut progress = walk_from(counts);
-    let mut i: usize = 0;
-    while i < word.len() {
-        progress = follow(
-            rt,
-            word,
-            i,
-            steps,
-            shadings,
-            &mut *faces,
-            &mut *positions,
-            progress,
-        )?;
-        i += 1;
+    let mut progress = Progress::from(counts);
+    let mut calls: usize = 0;
+    let mut rest = word;
+    while let Some((ask, after)) = first_ask(rest) {
+        let goes_on = ask.count.is_some() && is_walk(after);
+        progress = follow(rt, climb, ask, goes_on, progress)?;
+        if !goes_on {
+            calls = calls.wrapping_add(1);
+        }
+        rest = after;
     }
-    print_end(rt, call_count(word))
+    print_end(rt, calls)
 }

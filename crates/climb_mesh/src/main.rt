@@ -6,18 +6,19 @@ mod calls;
 mod print;
 mod word;
 
-use blocks::file::{Walk, walk_blocks};
+use blocks::file::walk_blocks;
 use blocks::parts::data_part;
-use calls::print_calls;
-use climb::{ClimbRead, read_climb};
+use calls::{Climb, print_calls};
+use climb::read_climb;
 use fields::field::bytes_at;
 use fields::limits::LARGEST_PROGRAM_FILE;
-use fields::numbers::{OVER_LIMIT, Refusal};
-use input::{Input, argument_count};
-use mesh::base::{MeshCounts, MeshRead, Part, read_mesh};
-use print::{print_climb, print_end, print_file, print_mesh, print_text};
+use fields::refusal::{Fault, Refusal};
+use input::argument_count;
+use mesh::base::{MeshCounts, MeshRefusal, Part, read_mesh};
+use mesh::tables::Tables;
+use print::{print_climb, print_end, print_file, print_mesh};
 use progressive::counts::Counts;
-use rows::{Declared, declaration_of, is_base_mesh, offset_in};
+use rows::{declaration_of, is_base_mesh, offset_in};
 use std::env::Env;
 use std::io;
 use std::rt::Runtime;
@@ -50,34 +51,25 @@ fn print_call_form(rt: &impl Eprint) -> io::Result<()> {
 }
 
 // The text's answer; a text above 64 KiB is refused.
-fn read_text(text: &[u8], steps: &mut [u32]) -> ClimbRead {
+fn read_text(text: &[u8], steps: &mut [u32]) -> Result<usize, Refusal> {
     if LARGEST_PROGRAM_FILE < text.len() {
-        return ClimbRead::Refused(Refusal {
-            number: OVER_LIMIT,
-            place: 0,
-        });
+        return Err(Fault::OverLimit.at(0));
     }
     read_climb(text, steps)
 }
 
 // The step count of a step table, 0 where it is empty.
 fn step_count(steps: &[u32]) -> u32 {
-    if 2 < steps.len() {
-        return steps[2];
-    }
-    0
+    steps.get(2).copied().unwrap_or(0)
 }
 
 // The words that were written, none of a refused text.
-fn words_of<'a>(read: &ClimbRead, steps: &'a [u32]) -> &'a [u32] {
-    let ClimbRead::Read(words) = read else {
-        return &steps[..0];
-    };
-    let words = *words;
+fn words_of(read: Result<usize, Refusal>, steps: &[u32]) -> &[u32] {
+    let words = read.unwrap_or(0);
     if steps.len() < words {
-        return &steps[..0];
+        return &[];
     }
-    &steps[0..words]
+    &steps[..words]
 }
 
 // The calls on a mesh that is read. Large tables are lent as arrays: their lengths are then known by their types.
@@ -91,24 +83,22 @@ fn print_read(
 ) -> io::Result<()> {
     let mut table = [0u32; STEP_ROOM];
     let read = read_text(text, &mut table);
-    let steps = words_of(&read, &table);
-    print_climb(rt, &read, step_count(steps))?;
-    let ClimbRead::Read(_) = read else {
+    let steps = words_of(read, &table);
+    print_climb(rt, read, step_count(steps))?;
+    if read.is_err() {
         return print_end(rt, 0);
+    }
+    let mut climb = Climb {
+        steps,
+        shadings: counts.shadings,
+        faces,
+        positions,
     };
     let present = Counts {
         positions: counts.positions,
         faces: counts.faces,
     };
-    print_calls(
-        rt,
-        calls,
-        steps,
-        counts.shadings,
-        &mut *faces,
-        &mut *positions,
-        present,
-    )
+    print_calls(rt, calls, &mut climb, present)
 }
 
 fn read_base(
@@ -116,21 +106,20 @@ fn read_base(
     continuation: &[u8],
     faces: &mut [u32; FACE_ROOM],
     positions: &mut [u32; POSITION_ROOM],
-) -> MeshRead {
+) -> Result<MeshCounts, MeshRefusal> {
     let mut normals = [0u32; POOL_ROOM];
     let mut diffuse = [0u32; POOL_ROOM];
     let mut specular = [0u32; POOL_ROOM];
     let mut texture = [0u32; POOL_ROOM];
-    read_mesh(
-        declaration,
-        continuation,
-        &mut *faces,
-        &mut *positions,
-        &mut normals,
-        &mut diffuse,
-        &mut specular,
-        &mut texture,
-    )
+    let tables = Tables {
+        faces,
+        positions,
+        normals: &mut normals,
+        diffuse: &mut diffuse,
+        specular: &mut specular,
+        texture: &mut texture,
+    };
+    read_mesh(declaration, continuation, tables)
 }
 
 fn print_base(
@@ -143,30 +132,21 @@ fn print_base(
     let mut faces = [0u32; FACE_ROOM];
     let mut positions = [0u32; POSITION_ROOM];
     let read = read_base(declaration, continuation, &mut faces, &mut positions);
-    print_mesh(rt, &read)?;
+    print_mesh(rt, read)?;
     match read {
-        MeshRead::Refused(_, _) => print_end(rt, 0),
-        MeshRead::Read(counts) => print_read(rt, text, calls, counts, &mut faces, &mut positions),
+        Ok(counts) => print_read(rt, text, calls, counts, &mut faces, &mut positions),
+        Err(_) => print_end(rt, 0),
     }
 }
 
 // A base mesh that goes with no declaration.
-fn print_without(rt: &impl Print, number: u32) -> io::Result<()> {
-    let refusal = Refusal { number, place: 0 };
-    print_mesh(rt, &MeshRead::Refused(Part::Continuation, refusal))?;
+fn print_without(rt: &impl Print, fault: Fault) -> io::Result<()> {
+    let refused = MeshRefusal {
+        part: Part::Continuation,
+        refusal: fault.at(0),
+    };
+    print_mesh(rt, Err(refused))?;
     print_end(rt, 0)
-}
-
-// The first row of a base mesh, `rows` where there is none.
-fn first_base_mesh(table: &[u32], rows: usize) -> usize {
-    let mut row: usize = 0;
-    while row < rows {
-        if is_base_mesh(table, row) {
-            return row;
-        }
-        row += 1;
-    }
-    rows
 }
 
 fn print_first(
@@ -177,20 +157,19 @@ fn print_first(
     text: &[u8],
     calls: &[u8],
 ) -> io::Result<()> {
-    let row = first_base_mesh(table, rows);
-    if row == rows {
+    let Some(row) = (0..rows).find(|&row| is_base_mesh(table, row)) else {
         print_message(rt, "the file has no base mesh\n")?;
         return print_end(rt, 0);
-    }
+    };
     let continuation = data_part(file, offset_in(table, row));
     match declaration_of(file, table, row) {
-        Declared::Refused(number) => print_without(rt, number),
-        Declared::At(at) => print_base(rt, data_part(file, at), continuation, text, calls),
+        Ok(at) => print_base(rt, data_part(file, at), continuation, text, calls),
+        Err(fault) => print_without(rt, fault),
     }
 }
 
 fn print_refused(rt: &impl Print, refusal: Refusal) -> io::Result<()> {
-    print_file(rt, refusal)?;
+    print_file(rt, Some(refusal))?;
     print_end(rt, 0)
 }
 
@@ -203,30 +182,18 @@ fn print_walk(
 ) -> io::Result<()> {
     let mut table = [0u32; 27295];
     match walk_blocks(file, &mut table) {
-        Walk::Refused(refusal) => print_refused(rt, refusal),
-        Walk::Done { blocks } => {
-            print_file(
-                rt,
-                Refusal {
-                    number: 0,
-                    place: 0,
-                },
-            )?;
+        Ok(blocks) => {
+            print_file(rt, None)?;
             print_first(rt, file, &table, blocks, text, calls)
         }
+        Err(refusal) => print_refused(rt, refusal),
     }
 }
 
 fn print_all(rt: &(impl Print + Eprint), file: &[u8], text: &[u8], calls: &[u8]) -> io::Result<()> {
-    print_text(rt, b"steps\t1\n")?;
+    print!(rt; "steps\t1\n")?;
     if LARGEST_PROGRAM_FILE < file.len() {
-        return print_refused(
-            rt,
-            Refusal {
-                number: OVER_LIMIT,
-                place: 0,
-            },
-        );
+        return print_refused(rt, Fault::OverLimit.at(0));
     }
     print_walk(rt, file, text, calls)
 }
@@ -235,10 +202,10 @@ fn print_all(rt: &(impl Print + Eprint), file: &[u8], text: &[u8], calls: &[u8])
 fn run(rt: &impl Runtime, calls: &[u8]) -> io::Result<()> {
     let mut file = [0u8; 65537];
     let mut text = [0u8; 65537];
-    let Input::Bytes(file_size) = input::read_file(rt, 1, &mut file) else {
+    let Some(file_size) = input::read_file(rt, 1, &mut file) else {
         return Ok(());
     };
-    let Input::Bytes(text_size) = input::read_file(rt, 2, &mut text) else {
+    let Some(text_size) = input::read_file(rt, 2, &mut text) else {
         return Ok(());
     };
     print_all(

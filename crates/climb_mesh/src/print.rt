@@ -1,99 +1,84 @@
 // Lines of fields with tabs between them.
-use climb::ClimbRead;
-use fields::numbers::Refusal;
-use mesh::base::{MeshRead, Part};
-use progressive::counts::{Counts, Stepped};
+use fields::refusal::{Fault, Refusal};
+use mesh::base::{MeshCounts, MeshRefusal, Part};
+use progressive::counts::Counts;
+use progressive::refine::Direction;
 use progressive::requests::Progress;
 use std::io;
 
-pub(crate) fn print_text(rt: &impl Print, text: &[u8]) -> io::Result<()> {
-    rt.write_all(text)
-}
-
-fn print_field(rt: &impl Print, value: u64) -> io::Result<()> {
-    print_text(rt, b"\t")?;
-    print!(rt; "{value}")
-}
-
-fn print_refusal(rt: &impl Print, refusal: &Refusal) -> io::Result<()> {
-    print_field(rt, refusal.number as u64)?;
-    print_field(rt, refusal.place as u64)
-}
-
 // The file's answer: number and place.
-pub(crate) fn print_file(rt: &impl Print, refusal: Refusal) -> io::Result<()> {
-    print_text(rt, b"file")?;
-    print_refusal(rt, &refusal)?;
-    print_text(rt, b"\n")
-}
-
-fn print_counts(rt: &impl Print, positions: u32, faces: u32) -> io::Result<()> {
-    print_field(rt, positions as u64)?;
-    print_field(rt, faces as u64)?;
-    print_text(rt, b"\n")
-}
-
-fn print_part(rt: &impl Print, part: &Part) -> io::Result<()> {
-    match part {
-        Part::Declaration => print_text(rt, b"\tdeclaration"),
-        Part::Continuation => print_text(rt, b"\tcontinuation"),
+pub(crate) fn print_file(rt: &impl Print, refused: Option<Refusal>) -> io::Result<()> {
+    match refused {
+        None => print!(rt; "file\t0\t0\n"),
+        Some(Refusal { fault, place }) => {
+            let number = u32::from(fault);
+            print!(rt; "file\t{number}\t{place}\n")
+        }
     }
 }
 
 // The mesh's answer: number, the part that the place counts in, place, and the counts of positions and faces.
-pub(crate) fn print_mesh(rt: &impl Print, read: &MeshRead) -> io::Result<()> {
-    print_text(rt, b"mesh")?;
+pub(crate) fn print_mesh(rt: &impl Print, read: Result<MeshCounts, MeshRefusal>) -> io::Result<()> {
     match read {
-        MeshRead::Read(counts) => {
-            print_text(rt, b"\t0\tnone\t0")?;
-            print_counts(rt, counts.positions, counts.faces)
-        }
-        MeshRead::Refused(part, refusal) => {
-            print_field(rt, refusal.number as u64)?;
-            print_part(rt, part)?;
-            print_field(rt, refusal.place as u64)?;
-            print_counts(rt, 0, 0)
+        Ok(
+            MeshCounts {
+                positions,
+                faces,
+                ..
+            },
+        ) => print!(rt; "mesh\t0\tnone\t0\t{positions}\t{faces}\n"),
+        Err(MeshRefusal { part, refusal }) => {
+            let number = u32::from(refusal.fault);
+            let place = refusal.place;
+            let part = match part {
+                Part::Declaration => "declaration",
+                Part::Continuation => "continuation",
+            };
+            print!(rt; "mesh\t{number}\t{part}\t{place}\t0\t0\n")
         }
     }
 }
 
 // The climb text's answer: number, place, and how many steps it has.
-pub(crate) fn print_climb(rt: &impl Print, read: &ClimbRead, steps: u32) -> io::Result<()> {
-    print_text(rt, b"climb")?;
+pub(crate) fn print_climb(
+    rt: &impl Print,
+    read: Result<usize, Refusal>,
+    steps: u32,
+) -> io::Result<()> {
     match read {
-        ClimbRead::Read(_) => print_text(rt, b"\t0\t0")?,
-        ClimbRead::Refused(refusal) => print_refusal(rt, refusal)?,
+        Ok(_) => print!(rt; "climb\t0\t0\t{steps}\n"),
+        Err(Refusal { fault, place }) => {
+            let number = u32::from(fault);
+            print!(rt; "climb\t{number}\t{place}\t{steps}\n")
+        }
     }
-    print_field(rt, steps as u64)?;
-    print_text(rt, b"\n")
 }
 
-// A call's number, and the counts after it.
-fn print_answer(rt: &impl Print, number: u32, counts: &Counts) -> io::Result<()> {
-    print_field(rt, number as u64)?;
-    print_counts(rt, counts.positions, counts.faces)
-}
-
-pub(crate) fn print_step(rt: &impl Print, letter: u8, stepped: &Stepped) -> io::Result<()> {
-    let text = [letter];
-    print_text(rt, &text)?;
-    match stepped {
-        Stepped::Done(counts) => print_answer(rt, 0, counts),
-        Stepped::Refused(refusal, counts) => print_answer(rt, refusal.number, counts),
-    }
+// A step's letter and number, and the counts after it.
+pub(crate) fn print_step(
+    rt: &impl Print,
+    direction: Direction,
+    refusal: Option<Fault>,
+    counts: Counts,
+) -> io::Result<()> {
+    let letter = match direction {
+        Direction::Up => "u",
+        Direction::Down => "d",
+    };
+    let number = refusal.map_or(0, u32::from);
+    let Counts { positions, faces } = counts;
+    print!(rt; "{letter}\t{number}\t{positions}\t{faces}\n")
 }
 
 // A walk's number, the steps granted, and the counts after them.
-pub(crate) fn print_progress(rt: &impl Print, progress: &Progress) -> io::Result<()> {
-    print_text(rt, b"walk")?;
-    print_field(rt, progress.number as u64)?;
-    print_field(rt, progress.granted)?;
-    print_counts(rt, progress.positions, progress.faces)
+pub(crate) fn print_progress(rt: &impl Print, progress: Progress) -> io::Result<()> {
+    let number = progress.number;
+    let granted = progress.granted;
+    let Counts { positions, faces } = progress.counts;
+    print!(rt; "walk\t{number}\t{granted}\t{positions}\t{faces}\n")
 }
 
 // How many calls were made.
 pub(crate) fn print_end(rt: &impl Print, calls: usize) -> io::Result<()> {
-    print_text(rt, b"end")?;
-    print_field(rt, calls as u64)?;
-    print_text(rt, b"\n")
+    print!(rt; "end\t{calls}\n")
 }

@@ -1,153 +1,65 @@
 // The word of calls. A letter is u (up) or d (down): alone it is a call, with a decimal after it a request, and requests that stand
 // together are one walk.
-use fields::limits::LARGEST_U32;
+ghost use Rattle.std.specs.Prelude.{◌<◌, length, IfSome};
+
+use progressive::refine::Direction;
+use std::str;
 
 // As many digits as the largest count has.
 const MOST_DIGITS: usize = 10;
 
-// What stands after a letter.
-#[derive(Drop)]
-pub enum Decimal {
-    Absent,
-    Value(u32),
-    TooLarge,
+// The way that a letter names, and the number after it where there is one.
+#[derive(Clone, Copy, Debug, PartialEq, Eq)]
+pub struct Ask {
+    pub direction: Direction,
+    pub count: Option<u32>,
 }
 
-// What a byte of the word asks for. A digit asks for nothing, unless a walk ends with it.
-#[derive(Drop)]
-pub enum Asked {
-    Step,
-    Request(u32),
-    WalkEnd,
-    Nothing,
-    Wrong,
+// A decimal of at most ten digits; none where it is above 4,294,967,295.
+fn decimal(digits: &[u8]) -> Option<u32> {
+    if MOST_DIGITS < digits.len() {
+        return None;
+    }
+    str::from_utf8(digits).ok()?.parse().ok()
 }
 
-fn is_letter(byte: u8) -> bool {
-    if byte == b'u' {
-        return true;
-    }
-    byte == b'd'
+// The letter with which a word begins, with its number, and what follows; none where the word begins with neither u nor d, or the number
+// is too large.
+pub(crate) fn first_ask(word: &[u8]) -> Option<(Ask, &[u8])>
+    ensures { IfSome result (λ asked. length asked.1.now < length word.now) }
+{
+    let (&letter, after) = word.split_first()?;
+    let direction = match letter {
+        b'u' => Direction::Up,
+        b'd' => Direction::Down,
+        _ => return None,
+    };
+    let digits = after
+        .iter()
+        .position(|byte| !byte.is_ascii_digit())
+        .unwrap_or(after.len());
+    let (number, rest) = after.split_at(digits);
+    let count = if number.is_empty() {
+        None
+    } else {
+        Some(decimal(number)?)
+    };
+    Some((Ask { direction, count }, rest))
 }
 
-fn is_digit(byte: u8) -> bool {
-    if byte < b'0' {
-        return false;
-    }
-    byte <= b'9'
-}
-
-// The byte at a place, 0 past the end.
-pub(crate) fn byte_at(word: &[u8], at: usize) -> u8 {
-    if at < word.len() {
-        return word[at];
-    }
-    0
-}
-
-// Whether the byte so many places after another is a digit.
-fn is_digit_after(word: &[u8], at: usize, places: usize) -> bool {
-    is_digit(byte_at(word, at.wrapping_add(places)))
-}
-
-// A value with one digit more; past the largest count it grows no further.
-fn with_digit(value: u64, digit: u8) -> u64 {
-    if (LARGEST_U32 as u64) < value {
-        return value;
-    }
-    value * 10 + digit.wrapping_sub(b'0') as u64
-}
-
-// A decimal of so many digits.
-fn decimal_of(digits: usize, value: u64) -> Decimal {
-    if digits == 0 {
-        return Decimal::Absent;
-    }
-    if MOST_DIGITS < digits {
-        return Decimal::TooLarge;
-    }
-    if (LARGEST_U32 as u64) < value {
-        return Decimal::TooLarge;
-    }
-    Decimal::Value(value as u32)
-}
-
-// The decimal from a place to the first byte that is no digit.
-fn decimal_at(word: &[u8], at: usize) -> Decimal {
-    let mut value: u64 = 0;
-    let mut i: usize = at;
-    while i < word.len() {
-        if !is_digit(word[i]) {
-            return decimal_of(i - at, value);
-        }
-        value = with_digit(value, word[i]);
-        i += 1;
-    }
-    decimal_of(i - at, value)
-}
-
-fn asked_by_letter(decimal: Decimal) -> Asked {
-    match decimal {
-        Decimal::Absent => Asked::Step,
-        Decimal::Value(count) => Asked::Request(count),
-        Decimal::TooLarge => Asked::Wrong,
-    }
-}
-
-// A walk goes on where a digit follows, or a letter and a digit.
-fn asked_by_digit(word: &[u8], at: usize) -> Asked {
-    if at == 0 {
-        return Asked::Wrong;
-    }
-    if is_digit_after(word, at, 1) {
-        return Asked::Nothing;
-    }
-    if is_digit_after(word, at, 2) {
-        return Asked::Nothing;
-    }
-    Asked::WalkEnd
-}
-
-pub(crate) fn asked_at(word: &[u8], at: usize) -> Asked {
-    let byte = byte_at(word, at);
-    if is_letter(byte) {
-        return asked_by_letter(decimal_at(word, at.wrapping_add(1)));
-    }
-    if is_digit(byte) {
-        return asked_by_digit(word, at);
-    }
-    Asked::Wrong
-}
-
-// Whether no byte is wrong: one that is neither letter nor digit, a digit at the start, a letter before a number above 4,294,967,295 or
-// of more than ten digits.
+// Whether a word is one letter after the other, each with a number or none.
 pub(crate) fn are_calls(word: &[u8]) -> bool {
-    let mut i: usize = 0;
-    while i < word.len() {
-        if let Asked::Wrong = asked_at(word, i) {
+    let mut rest = word;
+    while !rest.is_empty() {
+        let Some((_, after)) = first_ask(rest) else {
             return false;
-        }
-        i += 1;
+        };
+        rest = after;
     }
     true
 }
 
-// A call ends with a letter alone, or with the last digit of a walk.
-fn calls_at(word: &[u8], at: usize) -> usize {
-    match asked_at(word, at) {
-        Asked::Step => 1,
-        Asked::WalkEnd => 1,
-        _ => 0,
-    }
-}
-
-// How many calls a word has.
-pub(crate) fn call_count(word: &[u8]) -> usize {
-    let mut calls: usize = 0;
-    let mut i: usize = 0;
-    while i < word.len() {
-        calls = calls.wrapping_add(calls_at(word, i));
-        i += 1;
-    }
-    calls
+// Whether a walk goes on with what follows.
+pub(crate) fn is_walk(word: &[u8]) -> bool {
+    first_ask(word).is_some_and(|(ask, _)| ask.count.is_some())
 }

@@ -1,6 +1,6 @@
 -- The reader for runs of numbers, at no fault and at one; and with a total that is the frequencies' sum, where it answers as the judged
 -- reader does but for the pending bits: a part found quickly is the one that the sum leads to.
-use Rattle.std.proofs.Common.{◌≡◌, ℕ, zero, suc, ◌+◌, ◌-◌, ◌*◌, ◌<◌, ◌≤◌, Bool, true, false, cond, ◌&&◌, eqb, ltb, leb, List, length, get_or, take, sym, refl, ap, ◌∙◌, arith, ltb-true, le-ltb, lt-ltb, eq-eqb, ne_eqb, le-leb, leb-true}
+use Rattle.std.proofs.Common.{◌≡◌, ℕ, zero, suc, ◌+◌, ◌-◌, ◌*◌, ◌<◌, ◌≤◌, ◌⊎◌, inl, inr, Bool, true, false, cond, ◌&&◌, eqb, ltb, leb, List, length, get_or, take, sym, refl, ap, ◌∙◌, arith, ltb-true, le-ltb, lt-ltb, eq-eqb, ne_eqb, le-leb, leb-true}
 use Rattle.coder.proofs.Found.{LeadsOn, leads_symbol, symbol_at_found}
 use Rattle.coder.proofs.Raising.{read_raised}
 use Rattle.coder.proofs.Starting.{read_fault_lem}
@@ -66,6 +66,12 @@ module _ (total : ℕ) (h : Histogram) (d : List ℕ) (s : Coder) (fault : ℕ) 
 
 -- ---- the symbol found quickly
 
+-- a total of 0, and one that is full
+pub not_below : (total : ℕ) → (total < 1) ⊎ ((1 ≤ total) × (largest_total ≤ total)) → below_full total ≡ false
+unfolding below_full
+not_below total (inl none) = rw (lt-leb 1 total none)
+not_below total (inr (some, full)) = rw (le-leb 1 total some, le-ltb total largest_total full)
+
 -- its tests
 pub record Fit (total : ℕ) (h : Histogram) (k : ℕ) : Type 0 where
   pub escape : 1 ≤ get_or h 0 0
@@ -106,17 +112,9 @@ quick_fit total h d s v e = go (below_full total && part_fits total h k) refl e
     go false f g = absurd (omega (arith, g))
 
 module _ (total : ℕ) (h : Histogram) (x : Stream) (s : Coder) where
-  none_quick : 0 ≡ quick_symbol total h x s → Quick total h x s 0 0
-  unfolding sum
-  none_quick e = record { same = e; before_it = refl; codable = λ some. absurd (omega arith) }
-
-  pub empty_quick : total < 1 → Quick total h x s 0 0
-  unfolding quick_symbol below_full
-  empty_quick e = none_quick (rw (lt-leb 1 total e))
-
-  pub full_quick : 1 ≤ total → largest_total ≤ total → Quick total h x s 0 0
-  unfolding quick_symbol below_full
-  full_quick e f = none_quick (rw (le-leb 1 total e, le-ltb total largest_total f))
+  pub none_quick : below_full total ≡ false → 0 ≡ quick_symbol total h x s
+  unfolding quick_symbol
+  none_quick e = rw e
 
   module _ (place k : ℕ) (at : place ≡ target s x total) (found : k ≡ symbol_at h place) (some : 1 ≤ total) (few : total < largest_total) where
     below : below_full total ≡ true
@@ -126,9 +124,9 @@ module _ (total : ℕ) (h : Histogram) (x : Stream) (s : Coder) where
     led : k ≡ symbol_at h (target s x total)
     led = found ∙ ap (symbol_at h) at
 
-    pub unfit_quick : part_fits total h k ≡ false → Quick total h x s 0 0
+    pub unfit_quick : part_fits total h k ≡ false → 0 ≡ quick_symbol total h x s
     unfolding quick_symbol
-    unfit_quick p = none_quick (rw (← led, below, p))
+    unfit_quick p = rw (← led, below, p)
 
     pub fit_quick : (start : ℕ) → start ≡ sum (take k h) → part_fits total h k ≡ true → Quick total h x s k start
     unfolding quick_symbol
@@ -138,7 +136,10 @@ module _ (total : ℕ) (h : Histogram) (x : Stream) (s : Coder) where
         record {
           same = rw (← led, below, p);
           before_it = sums;
-          codable = λ some. (f.inside, f.below, record { some = omega (arith, part.from_start, part.to_end); within = f.within; small = omega (arith, f.below) });
+          some = f.value;
+          inside = f.inside;
+          below = f.below;
+          codable = record { some = omega (arith, part.from_start, part.to_end); within = f.within; small = omega (arith, f.below) };
         }
 
 -- it leads the reader on

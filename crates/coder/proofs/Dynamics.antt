@@ -12,18 +12,14 @@ use Rattle.coder.specs.Histogram.{Histogram, WellFormedHistogram, raised, span_o
 use Rattle.coder.specs.Inside.{Next, Reading, bytes_after_lead, context_number, found_as, lead_of, room_number}
 use Rattle.coder.specs.Interval.{Codable, Coder, Span, after_symbol, target}
 use Rattle.coder.specs.Forms.{fits, unless}
-use Rattle.coder.specs.Reading.{Taken, read_given, taken}
+use Rattle.coder.specs.Reading.{Taken, taken}
 use Rattle.coder.specs.Stream.{Stream}
 use Rattle.coder.specs.Symbols.{after_symbols, dynamic_after, dynamic_spans, plain_spans}
 use Rattle.coder.specs.Values.{Found, next_symbol, read_after, read_dynamic, read_plain, read_symbol, symbol_after}
-use Rattle.coder.specs.Writing.{Write, Writer, kept, write, written_given}
-use Rattle.coder.specs.declared.read.Read.{Read}
-use Rattle.coder.specs.declared.write.Written.{Written}
+use Rattle.coder.specs.Writing.{Write, Writer, kept, write}
 use Rattle.fields.specs.Numbers.{no_room, out_of_range, truncated}
 use borrow.Author.Tests.{eqb-false}
 use mathlib.Core.Bool.{false≢true}
-use Rattle.coder.specs.declared.read.Read as read
-use Rattle.coder.specs.declared.write.Written as written
 
 -- ---- writing
 
@@ -87,26 +83,21 @@ room_kept b later h e = rw e
 room_left : (b : Bool) (later h : Histogram) → b ≡ false → h ≡ kept (unless b no_room 0) later h
 room_left b later h e = rw e
 
-module _ (h : Histogram) (l : List ℕ) (w : Writer) (v : ℕ) (led : List Span) (same : led ≡ dynamic_spans h v) (r : Written) (m : List ℕ)
-    (answer : written_given r m ≡ write (room_number l (after_symbols w.coder led)) l w true led) where
-  room_told : (written_given r m).done ≡ fits (after_symbols w.coder led) (length l)
-  room_told = ap (λ (o : Write). o.done) answer ∙ write_told (fits (after_symbols w.coder led) (length l)) l w true led
+module _ (h : Histogram) (l : List ℕ) (w : Writer) (v : ℕ) (led : List Span) (same : led ≡ dynamic_spans h v) (t : Write)
+    (answer : t ≡ write (room_number l (after_symbols w.coder led)) l w true led) where
+  room_told : fits (after_symbols w.coder led) (length l) ≡ t.done
+  room_told = sym (ap (λ (o : Write). o.done) answer ∙ write_told (fits (after_symbols w.coder led) (length l)) l w true led)
 
-  written_done : (q : Written) → r ≡ q → fits (after_symbols w.coder led) (length l) ≡ (written_given q m).done
-  written_done q e = sym room_told ∙ ap (λ (p : Written). (written_given p m).done) e
+  pub written_answer : t ≡ write (room_number l (after_symbols w.coder (dynamic_spans h v))) l w true (dynamic_spans h v)
+  written_answer = rw (← same) answer
 
-  pub written_answer : (q : Written) → r ≡ q
-      → written_given q m ≡ write (room_number l (after_symbols w.coder (dynamic_spans h v))) l w true (dynamic_spans h v)
-  written_answer q e = ap (λ (p : Written). written_given p m) (sym e) ∙ rw (← same) answer
+  pub written_left : t.done ≡ false → h ≡ kept (room_number l (after_symbols w.coder (dynamic_spans h v))) (dynamic_after h v) h
+  written_left e = rw (← same) (room_left (fits (after_symbols w.coder led) (length l)) (dynamic_after h v) h (room_told ∙ e))
 
-  pub written_left : (n : ℕ) (t : Writer) → r ≡ written.TheVariants.Refused n t
-      → h ≡ kept (room_number l (after_symbols w.coder (dynamic_spans h v))) (dynamic_after h v) h
-  written_left n t e = rw (← same) (room_left (fits (after_symbols w.coder led) (length l)) (dynamic_after h v) h (written_done _ e))
-
-  pub written-kept : (t : Writer) (k : ℕ) (g : Histogram) → r ≡ written.TheVariants.Done t → k ≡ lead_of h v → g ≡ symbol_after h k v
+  pub written-kept : (k : ℕ) (g : Histogram) → t.done ≡ true → k ≡ lead_of h v → g ≡ symbol_after h k v
       → g ≡ kept (room_number l (after_symbols w.coder (dynamic_spans h v))) (dynamic_after h v) h
-  written-kept t k g e lead raised =
-      raised ∙ rw (lead, lead_after h v, ← same) (room_kept (fits (after_symbols w.coder led) (length l)) (dynamic_after h v) h (written_done _ e))
+  written-kept k g e lead raised =
+      raised ∙ rw (lead, lead_after h v, ← same) (room_kept (fits (after_symbols w.coder led) (length l)) (dynamic_after h v) h (room_told ∙ e))
 
 -- ---- reading
 
@@ -150,12 +141,6 @@ value_left true true later h e = absurd (false≢true (sym e))
 value_left true false later h e = refl
 value_left false b later h e = refl
 
-taken_value : (a b : Bool) (found : Found) (s : Coder) → (a && b) ≡ true → (taken (unless a truncated (unless b out_of_range 0)) found s).value ≡ found.value
-unfolding taken
-taken_value true true found s e = refl
-taken_value true false found s e = absurd (false≢true e)
-taken_value false b found s e = absurd (false≢true e)
-
 -- an answer at no fault is done where both tests are passed
 taken_told : (a b : Bool) (found : Found) (s : Coder) → (taken (unless a truncated (unless b out_of_range 0)) found s).done ≡ (a && b)
 unfolding taken
@@ -163,33 +148,21 @@ taken_told true true found s = refl
 taken_told true false found s = refl
 taken_told false b found s = refl
 
-module _ (len : ℕ) (s : Coder) (found : Found) (r : Read) (answer : read_given r ≡ taken (context_number len found) found s) where
-  value_told_lem : (q : Read) → r ≡ q → (leb found.state.settled (8 * len) && ltb found.value values) ≡ (read_given q).done
-  value_told_lem q e =
+module _ (len : ℕ) (s : Coder) (found : Found) (t : Taken) (answer : t ≡ taken (context_number len found) found s) where
+  value_told_lem : (leb found.state.settled (8 * len) && ltb found.value values) ≡ t.done
+  value_told_lem =
       sym (ap (λ (t : Taken). t.done) answer ∙ taken_told (leb found.state.settled (8 * len)) (ltb found.value values) found s)
-      ∙ ap (λ (p : Read). (read_given p).done) e
 
-  pub counted_answer : (q : Read) → r ≡ q → read_given q ≡ taken (context_number len found) found s
-  counted_answer q e = ap read_given (sym e) ∙ answer
+  pub counted_left : (later h : Histogram) → t.done ≡ false → h ≡ kept (context_number len found) later h
+  counted_left later h e =
+      value_left (leb found.state.settled (8 * len)) (ltb found.value values) later h (value_told_lem ∙ e)
 
-  pub counted_left : (n : ℕ) (t : Coder) (later h : Histogram) → r ≡ read.TheVariants.Refused n t → h ≡ kept (context_number len found) later h
-  counted_left n t later h e =
-      value_left (leb found.state.settled (8 * len)) (ltb found.value values) later h (value_told_lem _ e)
+  pub counted_got : t.done ≡ true → found.value < values
+  counted_got e = ltb-true _ _ (and_both (leb found.state.settled (8 * len)) _ (value_told_lem ∙ e)).1
 
-  pub counted_got : (v : ℕ) (t : Coder) → r ≡ read.TheVariants.Got v t → (v ≡ found.value) × (v < values)
-  counted_got v t e =
-      let test : Bool = leb found.state.settled (8 * len) in
-      let both : (test && ltb found.value values) ≡ true = value_told_lem _ e in
-      let value : v ≡ found.value
-      = ap (λ (q : Read). (read_given q).value) (sym e) ∙ ap (λ (q : Taken). q.value) answer
-      ∙ taken_value test (ltb found.value values) found s both in
-      (value, rw value (ltb-true _ _ (and_both test _ both).1))
-
-  pub counted_kept : (v : ℕ) (t : Coder) (h : Histogram) (k : ℕ) (g : Histogram) → r ≡ read.TheVariants.Got v t → g ≡ symbol_after h k v
-      → g ≡ kept (context_number len found) (symbol_after h k found.value) h
-  counted_kept v t h k g e raised =
-      raised ∙ rw (counted_got v t e).0
-      (value_kept (leb found.state.settled (8 * len)) (ltb found.value values) (symbol_after h k found.value) h (value_told_lem _ e))
+  pub counted_kept : (h : Histogram) (k : ℕ) → t.done ≡ true → symbol_after h k found.value ≡ kept (context_number len found) (symbol_after h k found.value) h
+  counted_kept h k e =
+      value_kept (leb found.state.settled (8 * len)) (ltb found.value values) (symbol_after h k found.value) h (value_told_lem ∙ e)
 
 -- what is found so, in the words of the definition
 module _ (h : Histogram) (d : List ℕ) (s : Coder) (k : ℕ) (found : Found) (next : k ≡ next_symbol h (bit_at d) s) (same : found ≡ read_dynamic h (bit_at d) s) where

@@ -1,5 +1,5 @@
 -- The end of a coded run at no fault is judged by its room alone, and is a plain U32 of 0, low itself, or nothing.
-use Rattle.std.proofs.Common.{◌≡◌, ℕ, zero, suc, ◌+◌, ◌*◌, ◌≤◌, Bool, true, false, List, [], ◌∷◌, length, sym, refl, ap, ◌∙◌, arith, le-leb, leb-true}
+use Rattle.std.proofs.Common.{◌≡◌, ℕ, zero, suc, ◌+◌, ◌*◌, ◌≤◌, ◌⊎◌, inl, inr, Bool, true, false, List, [], ◌∷◌, length, sym, refl, ap, ◌∙◌, arith, le-leb, leb-true}
 use Rattle.coder.proofs.Flushing.{end_flush, end_low, end_none, zeros_low, zeros_pending}
 use Rattle.coder.proofs.Judgements.{Writable, writable}
 use Rattle.coder.proofs.Led.{write_told, holds, number_fault, number_room}
@@ -11,11 +11,9 @@ use Rattle.coder.specs.Inside.{Holds, room_number}
 use Rattle.coder.specs.Interval.{Coder, Span}
 use Rattle.coder.specs.Symbols.{after_symbols, byte_span, plain_spans, symbols_bits}
 use Rattle.coder.specs.Together.{lead_bits}
-use Rattle.coder.specs.Writing.{End, Write, Writer, end, end_as, end_number, write, write_fault, written_given}
-use Rattle.coder.specs.declared.write.Written.{Written}
+use Rattle.coder.specs.Writing.{End, Write, Writer, end, end_as, end_number, write, write_fault}
 use Rattle.fields.specs.Numbers.{no_room}
 use mathlib.Core.Bool.{or-false}
-use Rattle.coder.specs.declared.write.Written as written
 
 -- ---- an end by its room
 
@@ -56,7 +54,7 @@ ends_zero l w =
     end_as (room_number l (after_symbols w.coder zeros)) l w (after_symbols w.coder zeros) (symbols_bits w.coder zeros)
 
 -- a write's answer as that of an end
-abbrev as_end : ℕ → Write → End
+abbrev pub as_end : ℕ → Write → End
 as_end used a = record { number = a.number; done = a.done; used = used; writer = a.writer; bytes = a.bytes }
 
 zero_led : byte_span 0 ∷ plain_spans 3 0 ≡ plain_spans 4 0
@@ -64,41 +62,40 @@ unfolding plain_spans
 zero_led = refl
 
 module _
-    (l l' : List ℕ)
+    (l : List ℕ)
     (w : Writer)
     (a : Span)
-    (r : Written)
+    (t : Write)
     (lead : a ≡ byte_span 0)
-    (wrote : written_given r l' ≡ write (room_number l (after_symbols w.coder (a ∷ plain_spans 3 0))) l w false (a ∷ plain_spans 3 0))
+    (wrote : t ≡ write (room_number l (after_symbols w.coder (a ∷ plain_spans 3 0))) l w false (a ∷ plain_spans 3 0))
   where
-    zeros_wrote : written_given r l' ≡ write (room_number l (after_symbols w.coder (plain_spans 4 0))) l w false (plain_spans 4 0)
+    zeros_wrote : t ≡ write (room_number l (after_symbols w.coder (plain_spans 4 0))) l w false (plain_spans 4 0)
     zeros_wrote = rw (lead, zero_led) at wrote
 
-    zeros_told : (written_given r l').done ≡ fits (after_symbols w.coder (plain_spans 4 0)) (length l)
-    zeros_told = ap (λ (o : Write). o.done) zeros_wrote ∙ write_told (fits (after_symbols w.coder (plain_spans 4 0)) (length l)) l w false (plain_spans 4 0)
+    zeros_told : fits (after_symbols w.coder (plain_spans 4 0)) (length l) ≡ t.done
+    zeros_told = sym (ap (λ (o : Write). o.done) zeros_wrote ∙ write_told (fits (after_symbols w.coder (plain_spans 4 0)) (length l)) l w false (plain_spans 4 0))
 
-    pub zero_refused : (n : ℕ) (w' : Writer) → r ≡ written.TheVariants.Refused n w'
-        → record { number = n; done = false; used = 0; writer = w'; bytes = l' } ≡ ends_zero l w
+    pub zero_refused : t.done ≡ false → as_end 0 t ≡ ends_zero l w
     unfolding write
-    zero_refused n w' told =
-        let full : fits (after_symbols w.coder (plain_spans 4 0)) (length l) ≡ false = sym (rw told at zeros_told) in
-        ap (as_end 0) (rw (told, full) at zeros_wrote) ∙ as_refused l w _ _ full
+    zero_refused told =
+        let full : fits (after_symbols w.coder (plain_spans 4 0)) (length l) ≡ false = zeros_told ∙ told in
+        ap (as_end 0) (rw full at zeros_wrote) ∙ as_refused l w _ _ full
 
-    module _ (w' : Writer) (told : r ≡ written.TheVariants.Done w') where
+    module _ (told : t.done ≡ true) where
       zeros_room : fits (after_symbols w.coder (plain_spans 4 0)) (length l) ≡ true
-      zeros_room = sym (rw told at zeros_told)
+      zeros_room = zeros_told ∙ told
 
-      zeros_done : record { number = 0; done = true; writer = w'; bytes = l' } ≡ write 0 l w false (plain_spans 4 0)
-      zeros_done = rw (told, zeros_room) at zeros_wrote
+      zeros_done : t ≡ write 0 l w false (plain_spans 4 0)
+      zeros_done = rw zeros_room at zeros_wrote
 
-      zeros_after : w'.coder ≡ after_symbols w.coder (plain_spans 4 0)
+      zeros_after : t.writer.coder ≡ after_symbols w.coder (plain_spans 4 0)
       unfolding write
       zeros_after = ap (λ (a : Write). a.writer.coder) zeros_done
 
-      pub zero_small : Holds l w.coder → w'.coder.settled ≤ 8 * 0x1000000
-      zero_small h = let g : Holds l w'.coder = holds w'.coder l h.small (rw zeros_after zeros_room) in omega arith
+      pub zero_small : Holds l w.coder → t.writer.coder.settled ≤ 8 * 0x1000000
+      zero_small h = let g : Holds l t.writer.coder = holds t.writer.coder l h.small (rw zeros_after zeros_room) in omega arith
 
-      pub zero_done : (used : ℕ) → used ≡ bytes_of w'.coder.settled → record { number = 0; done = true; used = used; writer = w'; bytes = l' } ≡ ends_zero l w
+      pub zero_done : (used : ℕ) → used ≡ bytes_of t.writer.coder.settled → as_end used t ≡ ends_zero l w
       unfolding write end_as
       zero_done used size = as_done l w _ _ _ zeros_room (ap (as_end used) zeros_done ∙ rw (size, zeros_after, or-false))
 
@@ -135,11 +132,10 @@ module _ (l : List ℕ) (w : Writer) (fault : ℕ) (judged : fault ≡ write_fau
     pub finish_zero : (r : End) → w.compressed ≡ true → r ≡ ends_zero l w → r ≡ end l w
     finish_zero r same ends = end_judged r true _ _ same (end_flush w.coder end_writable.limits) ends
 
-    pub finish_low : (r : End) → w.compressed ≡ false → (w.coder.low ≡ 0 → ⊥) → r ≡ ends_low l w → r ≡ end l w
-    finish_low r same some ends = end_judged r false _ _ same (end_low w.coder (zeros_low w.coder some)) ends
-
-    pub finish_pending : (r : End) → w.compressed ≡ false → (w.coder.pending ≡ 0 → ⊥) → r ≡ ends_low l w → r ≡ end l w
-    finish_pending r same some ends = end_judged r false _ _ same (end_low w.coder (zeros_pending w.coder some)) ends
+    pub finish_low : (r : End) → w.compressed ≡ false → (w.coder.low ≡ 0 → ⊥) ⊎ ((w.coder.low ≡ 0) × (w.coder.pending ≡ 0 → ⊥)) → r ≡ ends_low l w
+        → r ≡ end l w
+    finish_low r same (inl some) ends = end_judged r false _ _ same (end_low w.coder (zeros_low w.coder some)) ends
+    finish_low r same (inr (none, some)) ends = end_judged r false _ _ same (end_low w.coder (zeros_pending w.coder some)) ends
 
     pub finish_none : (used : ℕ) (l' : List ℕ) → w.compressed ≡ false → w.coder.low ≡ 0 → w.coder.pending ≡ 0 → used ≡ bytes_of w.coder.settled
         → l' ≡ padded l w.coder.settled → record { number = 0; done = true; used = used; writer = w; bytes = l' } ≡ end l w

@@ -77,6 +77,11 @@ unfolding plain_spans
 plain_none zero v h = refl
 plain_none (suc n) v h = absurd (omega arith)
 
+pub plain_next : (count k v : ℕ) → k < count → byte_span v ∷ plain_spans (count - (k + 1)) (v / 256) ≡ plain_spans (count - k) v
+plain_next count k v h =
+    let less : count - (k + 1) ≡ count - k - 1 = omega arith in
+    rw less (plain_more (count - k) v (omega arith))
+
 -- the state after them, and the bits put
 pub after_plain_more : (n v : ℕ) (s : Coder) → 0 < n
     → after_symbols (after_symbol s (byte_span v)) (plain_spans (n - 1) (v / 256)) ≡ after_symbols s (plain_spans n v)

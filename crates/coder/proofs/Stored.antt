@@ -1,4 +1,8 @@
 -- The bits that are settled together, and how they go into bytes.
+use borrow.Rule.Slice.PartMut.{put_mid}
+use Rattle.std.proofs.Common.{take-suc-set, drop-set-lt, drop-cons}
+use Rattle.std.proofs.lemmas.List.{take-append-drop}
+use lib.Seq.{append_snoc}
 use Rattle.std.proofs.Common.{◌≡◌, ℕ, zero, suc, ◌+◌, ◌-◌, ◌*◌, ◌/◌, ◌%◌, ◌^◌, ◌<◌, ◌≤◌, List, [], ◌∷◌, ◌++◌, length, get_or, set, replicate, sym, refl, ap, ◌∙◌, append-nil, add-zero, mul-le-mul_right, mod-lt, mod-eq_of_lt, mul_assoc, suc-mul, mul_comm, add-mul, suc-add, one-mul, pow-suc, zero-add, zero-mul, add-one, one-add, arith, length-set, get_or-set_same, set-set, pow_pos, pow_mono, pow-add, shr-shr}
 use Rattle.coder.proofs.Putting.{put_bits_append, run_none}
 use Rattle.coder.proofs.Reversal.{reversed_below}
@@ -234,6 +238,25 @@ fill_turn l i end b h f s =
 
 pub fill_none : (l : List ℕ) (i end b : ℕ) → end ≤ i → l ≡ put_bits l (8 * i) (replicate (8 * (end - i)) b)
 fill_none l i end b h = run_none (8 * (end - i)) l (8 * i) b (omega arith)
+
+-- whole bytes that are equal, put between those before and those after them
+pub filled : (n a b : ℕ) (l : List ℕ) → a + n ≤ length l → b ≤ 1
+    → put_mid a n l (replicate n (b * (2 ^ 8 - 1))) ≡ put_bits l (8 * a) (replicate (8 * n) b)
+unfolding put_bits
+filled zero a b l h s = take-append-drop a l
+filled (suc n) a b l h s =
+    let v : ℕ = b * (2 ^ 8 - 1) in
+    let m : List ℕ = set l a v in
+    let small : a < length l = omega arith in
+    let less : a < suc a = omega arith in
+    let end : a + suc n - (a + 1) ≡ n = omega arith in
+    let whole : a + suc n - a ≡ suc n = omega arith in
+    let ih : put_mid (a + 1) n m (replicate n v) ≡ put_bits m (8 * (a + 1)) (replicate (8 * n) b) = filled n (a + 1) b m (omega (arith, length-set l a v)) s in
+    let turn : put_bits m (8 * (a + 1)) (replicate (8 * n) b) ≡ put_bits l (8 * a) (replicate (8 * suc n) b) =
+    rw (end, whole) at (fill_turn l a (a + suc n) b (omega arith) h s) in
+    let same : put_mid a (suc n) l (replicate (suc n) v) ≡ put_mid (a + 1) n m (replicate n v) =
+    rw (add-one, take-suc-set l a v small, drop-set-lt (suc a) l a v less, append_snoc, drop-cons l a 0 small) in
+    same ∙ ih ∙ turn
 
 -- a long run: the rest of its first byte, whole bytes, and what the last one has
 pub run_long : (from count b : ℕ) (l : List ℕ) → 8 ≤ count

@@ -1,5 +1,8 @@
 -- Laws of tests: two that pass together pass each, and judgements that come to 0 were all passed.
 use Rattle.std.proofs.Common.{◌≡◌, ℕ, zero, suc, ◌<◌, Bool, true, false, ◌&&◌, refl, ap, ◌∙◌, arith}
+use Rattle.fields.specs.Numbers.{fault_number}
+use Rattle.fields.specs.declared.refusal.Fault.{Fault}
+use Rattle.fields.specs.declared.refusal.Fault.TheVariants as fault
 use Rattle.coder.specs.Forms.{first, unless}
 use Rattle.coder.specs.Writing.{kept}
 use mathlib.Core.Bool.{false≢true}
@@ -35,3 +38,24 @@ kept_refused {A} {n} {m} later lent some same = go n some ∙ ap (λ (k : ℕ). 
 
 pub kept_same : {A : Type 0} {n m : ℕ} {then : A} (later lent : A) → n ≡ m → then ≡ kept n later lent → then ≡ kept m later lent
 kept_same later lent e k = rw (← e) k
+
+-- a fault has a number
+pub fault_some : (f : Fault) → fault_number f ≡ 0 → ⊥
+fault_some fault.Truncated e = omega arith
+fault_some fault.BadHeader e = omega arith
+fault_some fault.BadSize e = omega arith
+fault_some fault.BadProfile e = omega arith
+fault_some fault.BadPadding e = omega arith
+fault_some fault.UnknownType e = omega arith
+fault_some fault.BadChain e = omega arith
+fault_some fault.BadName e = omega arith
+fault_some fault.OverLimit e = omega arith
+fault_some fault.OutOfRange e = omega arith
+fault_some fault.OutOfOrder e = omega arith
+fault_some fault.NoRoom e = omega arith
+fault_some fault.BadSteps e = omega arith
+fault_some fault.NotAllowed e = omega arith
+fault_some fault.CountsDisagree e = omega arith
+fault_some fault.NoStep e = omega arith
+fault_some fault.BytesLeft e = omega arith
+fault_some fault.BadState e = omega arith

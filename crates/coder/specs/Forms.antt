@@ -1,7 +1,9 @@
 -- What 01 calls well formed, as tests.
-use Rattle.std.specs.Prelude.{ℕ, zero, suc, ◌+◌, ◌-◌, ◌*◌, ◌/◌, ◌^◌, Bool, true, false, ◌&&◌, List, length, ◌==◌, nat_le, nat_lt}
+use Rattle.std.specs.Prelude.{ℕ, zero, suc, ◌+◌, ◌-◌, ◌*◌, ◌/◌, ◌^◌, Bool, true, false, ◌&&◌, List, length, ◌==◌, nat_le, nat_lt, Result, Ok, Err}
 use Rattle.coder.specs.Interval.{Coder, code}
 use Rattle.coder.specs.Stream.{Stream}
+use Rattle.fields.specs.Numbers.{fault_number}
+use Rattle.fields.specs.declared.refusal.Fault.{Fault}
 
 -- "low is below 0x8000, high is 0x8000 to 0xFFFF, low hasn't 0x4000 while high lacks it"
 unfoldable pub limits_formed : Coder → Bool
@@ -47,3 +49,8 @@ unless false number later = number
 abbrev pub first : ℕ → ℕ → ℕ
 first zero later = later
 first (suc n) later = suc n
+
+-- the number of what the code hands back: 0 where nothing is wrong
+abbrev pub fault_given : {A : Type 0} → Result A Fault → ℕ
+fault_given (Ok a) = 0
+fault_given (Err f) = fault_number f

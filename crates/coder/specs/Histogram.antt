@@ -1,6 +1,6 @@
 -- A dynamic context's histogram: the list of frequencies (01: weights), the escape symbol's first, then those of the values upward
 -- (10.4.3, 10.4.9). What follows this file knows the list only through these definitions.
-use Rattle.std.specs.Prelude.{ℕ, suc, ◌+◌, ◌-◌, ◌/◌, ◌≤◌, Bool, true, false, cond, ◌&&◌, List, [], ◌∷◌, map, length, take, replicate, ◌==◌, nat_le, nat_lt, slice_index, slice_set}
+use Rattle.std.specs.Prelude.{◌≡◌, ℕ, suc, ◌+◌, ◌-◌, ◌/◌, ◌≤◌, Bool, true, false, cond, ◌&&◌, List, [], ◌∷◌, map, length, take, replicate, ◌==◌, nat_le, nat_lt, slice_index, slice_set}
 use Rattle.coder.specs.Interval.{Span}
 
 abbrev pub Histogram : Type 0
@@ -72,3 +72,8 @@ part_fits total h k = nat_le 1 (slice_index h 0) && (nat_lt 0 k && (nat_lt k (le
 pub record WellFormedHistogram (h : Histogram) : Type 0 where
   pub escape : 1 ≤ slice_index h 0
   pub bounded : sum h ≤ largest_total
+
+-- such a histogram, and the sum of its frequencies
+pub record Totalled (h : Histogram) (total : ℕ) : Type 0 where
+  pub formed : WellFormedHistogram h
+  pub summed : total ≡ sum h

@@ -1,16 +1,19 @@
 -- What the private functions ask of one another.
-use Rattle.std.specs.Prelude.{◌≡◌, ℕ, zero, suc, ◌+◌, ◌-◌, ◌*◌, ◌^◌, ◌<◌, ◌≤◌, Bool, true, false, ◌&&◌, List, [], ◌∷◌, length, take, ◌==◌, nat_le, nat_lt, slice_index}
+use Rattle.std.specs.Prelude.{◌≡◌, ℕ, zero, suc, ◌+◌, ◌-◌, ◌*◌, ◌^◌, ◌<◌, ◌≤◌, Bool, true, false, ◌&&◌, List, [], ◌∷◌, length, take, ◌==◌, nat_le, nat_lt, slice_index, Result, Ok, Err, Option, Some, None}
 use Rattle.coder.specs.Bytes.{bit_at}
 use Rattle.coder.specs.Forms.{fits, limits_formed, unless}
 use Rattle.coder.specs.Histogram.{Histogram, add_at, escaped, histogram_formed, largest_total, span_in, span_of, sum, values}
 use Rattle.coder.specs.Interval.{Codable, Coder, Span, WellFormed, after_symbol, code, largest_range}
+use Rattle.coder.specs.Reading.{read_fault}
 use Rattle.coder.specs.Stream.{Stream}
 use Rattle.coder.specs.Symbols.{after_symbols, reversed}
 use Rattle.coder.specs.Totals.{Counted, counted_as, quick_symbol}
 use Rattle.coder.specs.Values.{Found, next_symbol, read_after, read_dynamic}
 use Rattle.coder.specs.Writing.{End, Write, Writer, end_as, write}
+use Rattle.coder.specs.declared.histogram.Symbol.{Symbol}
 use Rattle.fields.specs.Limits.{largest_file}
-use Rattle.fields.specs.Numbers.{bad_state, no_room, out_of_range, over_limit, truncated}
+use Rattle.fields.specs.Numbers.{bad_state, fault_number, no_room, out_of_range, over_limit, truncated}
+use Rattle.fields.specs.declared.refusal.Fault.{Fault}
 
 -- n more bits can be counted
 pub record Room (n : ℕ) (s : Coder) : Type 0 where
@@ -46,11 +49,21 @@ pub record Reading (s : Coder) (x : Stream) : Type 0 where
   pub from_low : s.low ≤ code s x
   pub to_high : code s x ≤ s.high
 
+-- such a state, and the number that it finds there
+pub record Pointed (s : Coder) (x : Stream) (number : ℕ) : Type 0 where
+  pub reading : Reading s x
+  pub same : number ≡ code s x
+
 -- what a reader judges before it looks at the bits: the size of the data (9), then limits and counts (18)
 unfoldable pub count_fault : Coder → ℕ → ℕ
 count_fault s len =
     unless (nat_le len largest_file) over_limit
     (unless (limits_formed s && (nat_lt s.settled (2 ^ 32) && nat_lt s.pending (2 ^ 32))) bad_state 0)
+
+-- what a read begins with, but for the pending bits: the number that the reader finds, or what is wrong
+abbrev pub Started : List ℕ → Coder → Result ℕ Fault → Type 0
+Started d s (Ok number) = (0 ≡ read_fault false d s) × (number ≡ code s (bit_at d))
+Started d s (Err f) = fault_number f ≡ read_fault false d s
 
 -- what is left to judge of a write at no fault: the room
 abbrev pub room_number : List ℕ → Coder → ℕ
@@ -86,11 +99,19 @@ pub record Next (h : Histogram) (x : Stream) (s : Coder) (index start : ℕ) : T
   pub codable : Codable (span_of h index)
   pub reading : Reading (after_symbol s (span_of h index)) x
 
--- a symbol for which nothing has to be added up, or 0, and the frequencies before it
+-- a symbol for which nothing has to be added up, and the frequencies before it
 pub record Quick (total : ℕ) (h : Histogram) (x : Stream) (s : Coder) (index start : ℕ) : Type 0 where
   pub same : index ≡ quick_symbol total h x s
   pub before_it : start ≡ sum (take index h)
-  pub codable : 0 < index → (index < length h) × (total < largest_total) × Codable (span_in total h index)
+  pub some : 0 < index
+  pub inside : index < length h
+  pub below : total < largest_total
+  pub codable : Codable (span_in total h index)
+
+-- such a symbol, or none
+abbrev pub QuickGiven : ℕ → Histogram → Stream → Coder → Option Symbol → Type 0
+QuickGiven total h x s (Some symbol) = Quick total h x s symbol.index symbol.start
+QuickGiven total h x s None = 0 ≡ quick_symbol total h x s
 
 -- an answer with the frequencies and their total, at no fault: of such a symbol, and of frequencies that are added up
 abbrev pub quick_counted : ℕ → Coder → Histogram → ℕ → ℕ → Counted

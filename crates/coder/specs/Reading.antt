@@ -1,16 +1,15 @@
 -- What the reader answers for every input: 01's number, the value, and the state; a dynamic context's histogram after it. A refusal's
 -- place is always 0. Where `look` is false the reader trusts that the pending bits were found inverted when it made the state itself.
-use Rattle.std.specs.Prelude.{ℕ, zero, suc, Bool, true, false, not, ◌&&◌, ◌||◌, List, length, nat_le, nat_lt}
+use Rattle.std.specs.Prelude.{ℕ, zero, suc, Bool, true, false, not, ◌&&◌, ◌||◌, List, length, nat_le, nat_lt, Result, Ok, Err}
 use Rattle.coder.specs.Bytes.{bit_at}
 use Rattle.coder.specs.Forms.{bits_in, first, pending_inverted, reader_formed, unless}
 use Rattle.coder.specs.Histogram.{Histogram, histogram_formed, values}
 use Rattle.coder.specs.Interval.{Coder}
 use Rattle.coder.specs.Values.{Found, read_after, read_dynamic, read_plain, read_static}
 use Rattle.coder.specs.Writing.{kept}
-use Rattle.coder.specs.declared.read.Read.{Read}
 use Rattle.fields.specs.Limits.{largest_file}
-use Rattle.fields.specs.Numbers.{bad_state, out_of_range, over_limit, truncated}
-use Rattle.coder.specs.declared.read.Read as read
+use Rattle.fields.specs.Numbers.{bad_state, fault_number, out_of_range, over_limit, truncated}
+use Rattle.fields.specs.declared.refusal.Fault.{Fault}
 
 -- 01's number, and whether the answer is done: just where the number is 0
 pub record Taken : Type 0 where
@@ -19,10 +18,10 @@ pub record Taken : Type 0 where
   pub value : ℕ
   pub state : Coder
 
--- what an answer says
-abbrev pub read_given : Read → Taken
-read_given (read.TheVariants.Got v s) = record { number = 0; done = true; value = v; state = s }
-read_given (read.TheVariants.Refused n s) = record { number = n; done = false; value = 0; state = s }
+-- what an answer says; a refusal leaves the state that was handed in
+abbrev pub read_given : Coder → Result Found Fault → Taken
+read_given s (Ok found) = record { number = 0; done = true; value = found.value; state = found.state }
+read_given s (Err f) = record { number = fault_number f; done = false; value = 0; state = s }
 
 -- what every read judges first: the size of the data (9), then the state (18)
 unfoldable pub read_fault : Bool → List ℕ → Coder → ℕ

@@ -1,6 +1,6 @@
 -- The reader for runs of numbers, in dynamic contexts. Beside the frequencies it is lent their total, as the call before left it, and adds
 -- them up again only where it must. Where the total is their sum it answers as the judged reader does (theorem `inner_is_judged`).
-use Rattle.std.specs.Prelude.{ℕ, zero, suc, ◌+◌, true, false, cond, ◌&&◌, List, ◌==◌}
+use Rattle.std.specs.Prelude.{ℕ, zero, suc, ◌+◌, true, false, cond, ◌&&◌, List, ◌==◌, Result}
 use Rattle.coder.specs.Bytes.{bit_at}
 use Rattle.coder.specs.Histogram.{Histogram, add_at, below_full, histogram_formed, part_fits, span_in, sum, symbol_at}
 use Rattle.coder.specs.Interval.{Coder, after_symbol, target}
@@ -8,7 +8,7 @@ use Rattle.coder.specs.Reading.{Taken, read_given, take_number, taken}
 use Rattle.coder.specs.Stream.{Stream}
 use Rattle.coder.specs.Values.{Found, read_after, read_dynamic}
 use Rattle.coder.specs.Writing.{kept}
-use Rattle.coder.specs.declared.read.Read.{Read}
+use Rattle.fields.specs.declared.refusal.Fault.{Fault}
 
 -- the symbol that the total leads to; 0 where the frequencies have to be added up
 unfoldable pub quick_symbol : ℕ → Histogram → Stream → Coder → ℕ
@@ -22,8 +22,8 @@ pub record Counted : Type 0 where
   pub histogram : Histogram
   pub total : ℕ
 
-abbrev pub counted_given : Read → Histogram → ℕ → Counted
-counted_given r h total = record { result = read_given r; histogram = h; total = total }
+abbrev pub counted_given : Coder → Result Found Fault → Histogram → ℕ → Counted
+counted_given s r h total = record { result = read_given s r; histogram = h; total = total }
 
 -- a refusal leaves both
 unfoldable pub counted_as : ℕ → Found → Coder → Histogram → Histogram → ℕ → ℕ → Counted

@@ -1,6 +1,6 @@
 -- What the writer answers for every input: 01's number, the state, and the bytes that the caller's buffer then holds. A refusal's
 -- place is always 0.
-use Rattle.std.specs.Prelude.{ℕ, zero, suc, ◌^◌, Bool, true, false, ◌||◌, List, length, nat_le, nat_lt}
+use Rattle.std.specs.Prelude.{◌≡◌, ℕ, zero, suc, ◌^◌, Bool, true, false, ◌||◌, List, length, nat_le, nat_lt, Result, Ok, Err}
 use Rattle.coder.specs.Bytes.{bytes_of, store_bits}
 use Rattle.coder.specs.Ending.{end_bits, end_state}
 use Rattle.coder.specs.Forms.{first, fits, unless, writer_formed}
@@ -10,12 +10,11 @@ use Rattle.coder.specs.Symbols.{after_symbols, dynamic_after, dynamic_spans, pla
 use Rattle.coder.specs.declared.ending.Ended.{Ended}
 pub use Rattle.coder.specs.declared.write.Writer.{Writer}
 use Rattle.coder.specs.declared.write.Width.{Width}
-use Rattle.coder.specs.declared.write.Written.{Written}
 use Rattle.fields.specs.Limits.{largest_file}
-use Rattle.fields.specs.Numbers.{bad_state, no_room, out_of_range, over_limit}
-use Rattle.coder.specs.declared.ending.Ended as ended
+use Rattle.fields.specs.Numbers.{bad_state, fault_number, no_room, out_of_range, over_limit}
+use Rattle.fields.specs.declared.refusal.Fault.{Fault}
 use Rattle.coder.specs.declared.write.Width as width
-use Rattle.coder.specs.declared.write.Written as written
+use Rattle.fields.specs.declared.refusal.Fault.TheVariants as fault
 
 -- a writer also knows whether a compressed value was written
 abbrev pub fresh_writer : Writer
@@ -28,10 +27,10 @@ pub record Write : Type 0 where
   pub writer : Writer
   pub bytes : List ℕ
 
--- what an answer says, beside the bytes that are then in the buffer
-abbrev pub written_given : Written → List ℕ → Write
-written_given (written.TheVariants.Done w) l = record { number = 0; done = true; writer = w; bytes = l }
-written_given (written.TheVariants.Refused n w) l = record { number = n; done = false; writer = w; bytes = l }
+-- what an answer says, beside the bytes that are then in the buffer; a refusal leaves the state that was handed in
+abbrev pub written_given : Writer → Result Writer Fault → List ℕ → Write
+written_given w (Ok next) l = record { number = 0; done = true; writer = next; bytes = l }
+written_given w (Err f) l = record { number = fault_number f; done = false; writer = w; bytes = l }
 
 -- what every write judges first: the buffer's size (9), then the state (18)
 unfoldable pub write_fault : Coder → ℕ → ℕ
@@ -59,6 +58,11 @@ abbrev pub bytes_in : Width → ℕ
 bytes_in width.TheVariants.U8 = 1
 bytes_in width.TheVariants.U16 = 2
 bytes_in width.TheVariants.U32 = 4
+
+-- the width of a plain value of n bytes; 10 where there is none
+abbrev pub NamesWidth : ℕ → Result Width Fault → Type 0
+NamesWidth n (Ok width) = n ≡ bytes_in width
+NamesWidth n (Err f) = ((width : Width) → n ≡ bytes_in width → ⊥) × (f ≡ fault.OutOfRange)
 
 -- n plain bytes: the value is one of theirs
 unfoldable pub write_plain : ℕ → List ℕ → Writer → ℕ → Write
@@ -93,9 +97,9 @@ pub record End : Type 0 where
   pub writer : Writer
   pub bytes : List ℕ
 
-abbrev pub ended_given : Ended → List ℕ → End
-ended_given (ended.TheVariants.Done used w) l = record { number = 0; done = true; used = used; writer = w; bytes = l }
-ended_given (ended.TheVariants.Refused n w) l = record { number = n; done = false; used = 0; writer = w; bytes = l }
+abbrev pub ended_given : Writer → Result Ended Fault → List ℕ → End
+ended_given w (Ok e) l = record { number = 0; done = true; used = e.used; writer = e.writer; bytes = l }
+ended_given w (Err f) l = record { number = fault_number f; done = false; used = 0; writer = w; bytes = l }
 
 unfoldable pub end_number : List ℕ → Writer → ℕ
 end_number l w = write_number l w.coder true true (end_state w.compressed w.coder)

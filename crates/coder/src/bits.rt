@@ -30,7 +30,7 @@ fn byte_at(bytes: &[u8], i: u64) -> u32
     ensures { result ≡ slice_index bytes.now i }
 {
     if i < bytes.len() as u64 {
-        bytes[i as usize] as u32
+        u32::from(bytes[i as usize])
     } else {
         0
     }
@@ -51,7 +51,9 @@ fn three_at(bytes: &[u8], i: u64) -> u32
 {
     if i + 2 < bytes.len() as u64 {
         let j = i as usize;
-        return bytes[j] as u32 + 0x100 * bytes[j + 1] as u32 + 0x10000 * bytes[j + 2] as u32;
+        return u32::from(bytes[j])
+            + 0x100 * u32::from(bytes[j + 1])
+            + 0x10000 * u32::from(bytes[j + 2]);
     }
     byte_at(bytes, i) + 0x100 * byte_at(bytes, i + 1) + 0x10000 * byte_at(bytes, i + 2)
 }
@@ -70,7 +72,7 @@ fn with_bits(byte: u8, place: u32, count: u32, value: u32) -> u8
     requires { (place + count ≤ 8) × (value < 2 ^ count) }
     ensures { result ≡ byte % 2 ^ place + value * 2 ^ place }
 {
-    ((byte as u32 & ((1 << place) - 1)) + (value << place)) as u8
+    ((u32::from(byte) & ((1 << place) - 1)) + (value << place)) as u8
 }
 
 // Puts bits that stay within the byte of the place, the lowest of the number first.
@@ -88,10 +90,11 @@ fn taken(at: u64, left: u64) -> u32
     ensures { (1 ≤ result) × (result ≤ left) × (at % 8 + result ≤ 8) }
 {
     let room = 8 - (at % 8) as u32;
-    if left < room as u64 {
-        return left as u32;
+    if left < u64::from(room) {
+        left as u32
+    } else {
+        room
     }
-    room
 }
 
 // The n low bits of a number.
@@ -118,11 +121,12 @@ pub(crate) fn put_up(buf: &mut [u8], from: u64, count: u64, value: u32)
     let mut at = from;
     let mut left = count;
     let mut rest = value;
+    // Kept: no range counts these turns, since each takes as many bits as the byte of its place has room for.
     while 0 < left {
         let n = taken(at, left);
         put_part(&mut *buf, at, n, low_bits(rest, n));
-        at += n as u64;
-        left -= n as u64;
+        at += u64::from(n);
+        left -= u64::from(n);
         rest = high_bits(rest, n);
     }
 }
@@ -149,11 +153,7 @@ fn fill(buf: &mut [u8], from: usize, end: usize, bit: u32)
     ensures { buf.new ≡ put_bits buf.old (8 * from) (replicate (8 * (end - from)) bit) }
 {
     let byte = equal_bits(bit, 8) as u8;
-    let mut i = from;
-    while i < end {
-        buf[i] = byte;
-        i += 1;
-    }
+    buf[from..end].fill(byte);
 }
 
 // Puts a run that reaches the end of its first byte: the whole bytes in its middle are filled.

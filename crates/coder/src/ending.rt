@@ -10,14 +10,14 @@ ghost use Rattle.coder.specs.Writing.{end, ended_given};
 
 use crate::bits::pad;
 use crate::interval::Coder;
-use crate::write::{Writer, Written, byte_span};
-use fields::numbers::NO_ROOM;
+use crate::write::{Writer, byte_span};
+use fields::refusal::Fault;
 
-// The number of a refusal comes with the state that was handed in; else the bytes used.
-#[derive(Drop)]
-pub enum Ended {
-    Done(usize, Writer),
-    Refused(u32, Writer),
+// The bytes that an ended run takes, and the state after it.
+#[derive(Clone, Copy, Debug, PartialEq, Eq)]
+pub struct Ended {
+    pub used: usize,
+    pub writer: Writer,
 }
 
 // The bytes that so many bits take.
@@ -45,60 +45,56 @@ impl Coder {
 
 impl Writer {
     // Ends with low itself: its top bit, the pending ones inverted, its other fifteen.
-    fn end_low(self, buf: &mut [u8]) -> Ended
+    fn end_low(self, buf: &mut [u8]) -> Result<Ended, Fault>
         requires { WellFormed self.coder × Holds buf.old self.coder }
-        ensures { ended_given result buf.new ≡ end_room buf.old self (low_state self.coder) (low_bits self.coder) }
+        ensures { ended_given self result buf.new ≡ end_room buf.old self (low_state self.coder) (low_bits self.coder) }
     {
         let start = self.coder;
         let next = start.low_ended();
         if !next.has_room(buf.len()) {
-            return Ended::Refused(NO_ROOM, self);
+            return Err(Fault::NoRoom);
         }
         pad(&mut *buf, start.settled);
         start.put_tops(16, &mut *buf);
-        Ended::Done(
-            bytes_of(next.settled),
-            Writer {
+        Ok(Ended {
+            used: bytes_of(next.settled),
+            writer: Writer {
                 coder: next,
-                compressed: self.compressed,
+                ..self
             },
-        )
+        })
     }
 
     // Ends with a plain U32 of 0.
-    fn end_zero(self, buf: &mut [u8]) -> Ended
+    fn end_zero(self, buf: &mut [u8]) -> Result<Ended, Fault>
         requires { WellFormed self.coder × Holds buf.old self.coder }
-        ensures { ended_given result buf.new ≡ end_room buf.old self (after_symbols self.coder (plain_spans 4 0)) (symbols_bits self.coder (plain_spans 4 0)) }
+        ensures { ended_given self result buf.new
+            ≡ end_room buf.old self (after_symbols self.coder (plain_spans 4 0)) (symbols_bits self.coder (plain_spans 4 0)) }
     {
-        match self.write_led(buf, false, byte_span(0), 0, 3) {
-            Written::Refused(number, writer) => Ended::Refused(number, writer),
-            Written::Done(writer) => {
-                let coder = writer.coder;
-                Ended::Done(bytes_of(coder.settled), writer)
-            }
-        }
+        let writer = self.write_led(buf, false, byte_span(0), 0, 3)?;
+        Ok(Ended {
+            used: bytes_of(writer.coder.settled),
+            writer,
+        })
     }
 
     // Ends a coded run: after a compressed value with a plain U32 of 0, else, where zeros would not lead a reader to low, with low.
-    pub fn finish(self, buf: &mut [u8]) -> Ended
-        ensures { ended_given result buf.new ≡ end buf.old self }
+    pub fn finish(self, buf: &mut [u8]) -> Result<Ended, Fault>
+        ensures { ended_given self result buf.new ≡ end buf.old self }
     {
-        let fault = self.coder.write_fault(buf.len());
-        if fault != 0 {
-            return Ended::Refused(fault, self);
-        }
+        let start = self.coder;
+        start.write_fault(buf.len())?;
         let compressed = self.compressed;
         if compressed {
             return self.end_zero(buf);
         }
-        let start = self.coder;
-        if start.low != 0 {
-            return self.end_low(buf);
-        }
-        if start.pending != 0 {
+        if start.low != 0 || start.pending != 0 {
             return self.end_low(buf);
         }
         pad(buf, start.settled);
-        Ended::Done(bytes_of(start.settled), self)
+        Ok(Ended {
+            used: bytes_of(start.settled),
+            writer: self,
+        })
     }
 }

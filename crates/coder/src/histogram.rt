@@ -1,10 +1,9 @@
 // The frequencies of a dynamic context: the escape symbol's first, then those of the values 0 to 255 (10.4.3, 10.4.9).
 ghost use Rattle.std.specs.Prelude.{◌≡◌, ◌+◌, ◌*◌, ◌%◌, ◌^◌, ◌<◌, ◌≤◌, map, length, take};
-ghost use Rattle.coder.specs.Histogram.{fresh_histogram, sum, symbol_at, halve, thinned, raised, span_of, histogram_formed, WellFormedHistogram, symbols, values};
+ghost use Rattle.coder.specs.Histogram.{fresh_histogram, sum, symbol_at, halve, thinned, raised, span_of, histogram_formed, Totalled, symbols, values};
 ghost use Rattle.coder.specs.Values.{symbol_after};
 
 use crate::interval::{Coder, Span};
-use std::num::wrapping_add_u32;
 
 // The escape symbol and one for each value.
 pub const SYMBOLS: usize = 257;
@@ -21,46 +20,34 @@ pub fn fresh_histogram() -> [u32; SYMBOLS]
     h
 }
 
-pub(crate) fn wide(frequency: u32) -> u64
-    ensures { (result ≡ frequency) × (result ≤ 0xFFFFFFFF) }
-{
-    frequency as u64
-}
-
 // The sum of the first count frequencies.
-fn sum_before(h: &[u32], count: usize) -> u64
-    requires { (count ≤ symbols) × (length h.now ≡ symbols) }
+fn sum_before(h: &[u32; SYMBOLS], count: usize) -> u64
+    requires { (count ≤ symbols) }
     ensures { result ≡ sum (take count h.now) }
 {
     let mut total: u64 = 0;
-    let mut i = 0;
-    while i < count {
-        total += wide(h[i]);
-        i += 1;
+    for i in 0..count {
+        total += u64::from(h[i]);
     }
     total
 }
 
 // All frequencies, their bits put together, and their sum in 32 bits.
-#[derive(Drop)]
+#[derive(Clone, Copy)]
 struct Sums {
     bits: u32,
     low: u32,
 }
 
 // The bits and the sum in one pass over narrow numbers.
-fn sums_of(h: &[u32]) -> Sums
-    requires { length h.now ≡ symbols }
+fn sums_of(h: &[u32; SYMBOLS]) -> Sums
     ensures { (result.low ≡ sum h.now % 2 ^ 32) × (sum h.now ≤ symbols * result.bits) }
 {
     let mut bits: u32 = 0;
     let mut low: u32 = 0;
-    let mut i = 0;
-    while i < SYMBOLS {
-        let frequency = h[i];
-        bits = bits | frequency;
-        low = wrapping_add_u32(low, frequency);
-        i += 1;
+    for &frequency in h {
+        bits |= frequency;
+        low = low.wrapping_add(frequency);
     }
     Sums { bits, low }
 }
@@ -69,42 +56,24 @@ fn sums_of(h: &[u32]) -> Sums
 const NARROW: u32 = 0x800000;
 
 // The sum of all frequencies.
-pub(crate) fn total_of(h: &[u32]) -> u64
-    requires { length h.now ≡ symbols }
+pub(crate) fn total_of(h: &[u32; SYMBOLS]) -> u64
     ensures { result ≡ sum h.now }
 {
     let sums = sums_of(h);
     if sums.bits < NARROW {
-        return wide(sums.low);
+        u64::from(sums.low)
+    } else {
+        sum_before(h, SYMBOLS)
     }
-    sum_before(h, SYMBOLS)
 }
 
 // Whether escape has some frequency and the total is not too large.
-pub(crate) fn histogram_formed(h: &[u32], total: u64) -> bool
-    requires { (length h.now ≡ symbols) × (total ≡ sum h.now) }
+#[tactic(auto, unfolding(crate::specs::Histogram::histogram_formed))]
+pub(crate) fn histogram_formed(h: &[u32; SYMBOLS], total: u64) -> bool
+    requires { (total ≡ sum h.now) }
     ensures { result ≡ histogram_formed h.now }
 {
-    if h[0] < 1 {
-        return false;
-    }
-    total <= Coder::LARGEST_TOTAL as u64
-}
-
-// A symbol's part of the total.
-pub(crate) fn span_of(h: &[u32], total: u64, symbol: usize) -> Span
-    requires h_len { (length h.now ≡ symbols) × (symbol < symbols) × (total ≡ sum h.now) }
-    requires well_formed_histogram { WellFormedHistogram h.now }
-    ensures { result ≡ span_of h.now symbol }
-{
-    span_at(
-        h,
-        total,
-        Symbol {
-            index: symbol,
-            start: sum_before(h, symbol),
-        },
-    )
+    0 < h[0] && total <= u64::from(Coder::LARGEST_TOTAL)
 }
 
 // A symbol, and the sum of the frequencies before it.
@@ -115,14 +84,12 @@ pub(crate) struct Symbol {
 }
 
 // The symbol whose part of the total holds a place.
-pub(crate) fn symbol_at(h: &[u32], place: u64) -> Symbol
-    requires { length h.now ≡ symbols }
+pub(crate) fn symbol_at(h: &[u32; SYMBOLS], place: u64) -> Symbol
     ensures { (result.index ≡ symbol_at h.now place) × (result.start ≡ sum (take result.index h.now)) × (result.start ≤ place) }
 {
     let mut rest = place;
-    let mut index = 0;
-    while index < SYMBOLS {
-        let frequency = wide(h[index]);
+    for index in 0..SYMBOLS {
+        let frequency = u64::from(h[index]);
         if rest < frequency {
             return Symbol {
                 index,
@@ -130,69 +97,83 @@ pub(crate) fn symbol_at(h: &[u32], place: u64) -> Symbol
             };
         }
         rest -= frequency;
-        index += 1;
     }
     Symbol {
-        index,
+        index: SYMBOLS,
         start: place - rest,
     }
 }
 
-// The part of the total of a symbol that was found there.
-pub(crate) fn span_at(h: &[u32], total: u64, symbol: Symbol) -> Span
-    requires h_len { (length h.now ≡ symbols) × (symbol.index < symbols) × (total ≡ sum h.now) }
-    requires well_formed_histogram { WellFormedHistogram h.now × (symbol.start ≡ sum (take symbol.index h.now)) }
-    ensures { result ≡ span_of h.now symbol.index }
-{
-    let index = symbol.index;
-    Span {
-        start: symbol.start as u32,
-        weight: h[index],
-        total: total as u32,
+// Well-formed frequencies, and their sum.
+#[derive(Clone, Copy)]
+pub(crate) struct Frequencies<'a> {
+    pub each: &'a [u32; SYMBOLS],
+    pub total: u64,
+    ghost totalled: { Totalled each.now total },
+}
+
+impl<'a> Frequencies<'a> {
+    // A symbol's part of the total.
+    pub(crate) fn span_of(self, symbol: usize) -> Span
+        requires { symbol < symbols }
+        ensures { result ≡ span_of self.entry.each.now symbol }
+    {
+        self.span_at(Symbol {
+            index: symbol,
+            start: sum_before(self.each, symbol),
+        })
+    }
+
+    // The part of the total of a symbol that was found there.
+    pub(crate) fn span_at(self, symbol: Symbol) -> Span
+        requires { (symbol.index < symbols) × (symbol.start ≡ sum (take symbol.index self.each.now)) }
+        ensures { result ≡ span_of self.entry.each.now symbol.index }
+    {
+        let index = symbol.index;
+        Span {
+            start: symbol.start as u32,
+            weight: self.each[index],
+            total: self.total as u32,
+        }
     }
 }
 
 // Halves every frequency, rounding down.
-fn halve_all(h: &mut [u32])
-    requires { length h.old ≡ symbols }
+fn halve_all(h: &mut [u32; SYMBOLS])
     ensures { h.new ≡ map halve h.old }
 {
-    let mut i = 0;
-    while i < SYMBOLS {
-        h[i] = h[i] / 2;
-        i += 1;
+    for frequency in h {
+        *frequency /= 2;
     }
 }
 
 // A full histogram is halved, and its escape frequency raised.
-fn thin(h: &mut [u32], total: u64)
-    requires h_len { (length h.old ≡ symbols) × (total ≡ sum h.old) }
-    requires well_formed_histogram { WellFormedHistogram h.old }
+// Kept: frequencies that change stay apart from their total. A struct of both keeps its fact, which each change would break.
+fn thin(h: &mut [u32; SYMBOLS], total: u64)
+    requires { Totalled h.old total }
     ensures { h.new ≡ thinned h.old }
 {
-    if total >= Coder::LARGEST_TOTAL as u64 {
-        halve_all(h);
-        h[0] = h[0] + 1;
+    if total >= u64::from(Coder::LARGEST_TOTAL) {
+        halve_all(&mut *h);
+        h[0] += 1;
     }
 }
 
 // A symbol's frequency rises.
-fn raise(h: &mut [u32], total: u64, symbol: usize)
-    requires h_len { (length h.old ≡ symbols) × (symbol < symbols) × (total ≡ sum h.old) }
-    requires well_formed_histogram { WellFormedHistogram h.old }
+fn raise(h: &mut [u32; SYMBOLS], total: u64, symbol: usize)
+    requires { (symbol < symbols) × Totalled h.old total }
     ensures { h.new ≡ raised h.old symbol }
 {
-    thin(h, total);
-    h[symbol] = h[symbol] + 1;
+    thin(&mut *h, total);
+    h[symbol] += 1;
 }
 
 // The frequencies rise after a symbol that was read or written: after an escape, also that of the value which followed.
-pub(crate) fn raise_after(h: &mut [u32], total: u64, symbol: usize, value: u32)
-    requires h_len { (length h.old ≡ symbols) × (symbol < symbols) × (total ≡ sum h.old) }
-    requires well_formed_histogram { WellFormedHistogram h.old × (value < values) }
+pub(crate) fn raise_after(h: &mut [u32; SYMBOLS], total: u64, symbol: usize, value: u32)
+    requires { (symbol < symbols) × (value < values) × Totalled h.old total }
     ensures { h.new ≡ symbol_after h.old symbol value }
 {
-    raise(h, total, symbol);
+    raise(&mut *h, total, symbol);
     if symbol == 0 {
         let next = total_of(&*h);
         raise(h, next, value as usize + 1);

@@ -10,7 +10,7 @@ use crate::bits::{put_part, put_run, put_up};
 use crate::reverse::reversed_word;
 
 // The limits, the bits that wait for the next settled one, and the count of settled bits.
-#[derive(Clone, Copy)]
+#[derive(Clone, Copy, Debug, PartialEq, Eq)]
 pub struct Coder {
     pub low: u32,
     pub high: u32,
@@ -19,7 +19,7 @@ pub struct Coder {
 }
 
 // A symbol's part of the frequencies: those before it, its own, and all together.
-#[derive(Clone, Copy)]
+#[derive(Clone, Copy, Debug, PartialEq, Eq)]
 pub struct Span {
     pub start: u32,
     pub weight: u32,
@@ -79,8 +79,7 @@ impl Coder {
         Coder {
             low: self.low + part(range, span.start, span.total),
             high: self.low + part(range, span.start + span.weight, span.total) - 1,
-            pending: self.pending,
-            settled: self.settled,
+            ..self
         }
     }
 
@@ -97,7 +96,7 @@ impl Coder {
             low: (self.low << n) % 0x10000,
             high: (self.high << n) % 0x10000 + ((1 << n) - 1),
             pending: 0,
-            settled: self.settled + n as u64 + self.pending,
+            settled: self.settled + u64::from(n) + self.pending,
         }
     }
 
@@ -119,8 +118,8 @@ impl Coder {
         Coder {
             low: 0x8000 - ((0x8000 - self.low) << n),
             high: 0x7FFF + ((self.high - 0x7FFF) << n),
-            pending: self.pending + n as u64,
-            settled: self.settled,
+            pending: self.pending + u64::from(n),
+            ..self
         }
     }
 
@@ -168,7 +167,12 @@ impl Coder {
         let after = self.settled + 1 + self.pending;
         put_part(&mut *buf, self.settled, 1, top);
         put_run(&mut *buf, self.settled + 1, 1 - top, self.pending);
-        put_up(&mut *buf, after, n as u64 - 1, reversed_word(self.low) / 2);
+        put_up(
+            &mut *buf,
+            after,
+            u64::from(n) - 1,
+            reversed_word(self.low) / 2,
+        );
     }
 
     // As renormalized; the bits that settle are put.

@@ -2,42 +2,28 @@
 ghost use Rattle.fields.specs.Limits.{largest_file};
 ghost use Rattle.std.specs.Prelude.{◌≡◌, ◌+◌, ◌-◌, ◌*◌, ◌/◌, ◌^◌, ◌<◌, ◌≤◌, true, false, not, ◌&&◌, ◌||◌, length, nat_le};
 ghost use Rattle.coder.specs.Bytes.{bit_at};
-ghost use Rattle.coder.specs.Forms.{is_run, pending_inverted};
-ghost use Rattle.coder.specs.Inside.{Reading, Stepped, count_fault, found_as, value_number};
-ghost use Rattle.coder.specs.Interval.{code, target, WellFormed, largest_range};
-ghost use Rattle.coder.specs.Reading.{read_fault, read_given, taken, take_plain, take_static};
+ghost use Rattle.coder.specs.Forms.{fault_given, is_run, pending_inverted};
+ghost use Rattle.coder.specs.Inside.{Pointed, Started, Stepped, count_fault, found_as, value_number};
+ghost use Rattle.coder.specs.Interval.{Coder as Interval, code, target, WellFormed, largest_range};
+ghost use Rattle.coder.specs.Reading.{read_given, taken, take_plain, take_static};
 ghost use Rattle.coder.specs.Values.{read_plain, read_static, symbol_value};
 ghost use Rattle.coder.specs.Writing.{bytes_in};
 
 use crate::bits::{bit_at, word_at};
 use crate::interval::Coder;
 use crate::reverse::{reversed, reversed_bytes};
-use crate::write::{U32_BYTES, Width, bytes_in, static_span};
+use crate::write::{U32_BYTES, Width, static_span};
 use fields::limits::LARGEST_FILE;
-use fields::numbers::{BAD_STATE, OUT_OF_RANGE, OVER_LIMIT, TRUNCATED};
+use fields::refusal::Fault;
 
 // The first count of bits that a reader's state may not have.
 const TOO_MANY: u64 = 0x100000000;
 
-// The number of a refusal comes with the state that was handed in.
-#[derive(Drop)]
-pub enum Read {
-    Got(u32, Coder),
-    Refused(u32, Coder),
-}
-
 // A value, and the state after it.
-#[derive(Drop)]
+#[derive(Clone, Copy, Debug, PartialEq, Eq)]
 pub struct Found {
     pub value: u32,
     pub state: Coder,
-}
-
-// What is wrong (9, 18, or 0 where nothing is), and the number that is found.
-#[derive(Drop)]
-pub(crate) struct Start {
-    pub fault: u32,
-    pub number: u32,
 }
 
 // Whether count bits from a place are all equal to bit. Past the end every bit is 0, so the rest of a run is not walked.
@@ -47,17 +33,13 @@ fn is_run(bytes: &[u8], from: u64, count: u64, bit: u32) -> bool
     ensures { result ≡ is_run (bit_at bytes.now) from count bit }
 {
     let bits = 8 * bytes.len() as u64;
-    let mut at = from;
-    let mut left = count;
-    while 0 < left {
+    for at in from..from + count {
         if bit_at(bytes, at) != bit {
             return false;
         }
         if bits <= at {
             return true;
         }
-        at += 1;
-        left -= 1;
     }
     true
 }
@@ -81,8 +63,9 @@ impl Coder {
     }
 
     // A value in a static range that is coded as one symbol.
+    // Kept: one struct of state, data and number is no plainer. Each step goes on with the state alone, and would take it apart first.
     fn symbol_value(self, bytes: &[u8], number: u32, range: u32) -> Found
-        requires reading { Reading self (bit_at bytes.now) × (number ≡ code self (bit_at bytes.now)) }
+        requires pointed { Pointed self (bit_at bytes.now) number }
         requires pending_bound { (self.settled + self.pending < 2 ^ 33 + 256) × (1 ≤ range) × (range ≤ largest_range) }
         ensures value { result ≡ symbol_value range (bit_at bytes.now) self }
         ensures stepped { Stepped range (bit_at bytes.now) self result 32 }
@@ -96,7 +79,7 @@ impl Coder {
 
     // A plain value of count bytes, to whose first symbol the number points.
     pub(crate) fn plain_value(self, bytes: &[u8], first: u32, count: u32) -> Found
-        requires reading { Reading self (bit_at bytes.now) × (first ≡ code self (bit_at bytes.now)) }
+        requires pointed { Pointed self (bit_at bytes.now) first }
         requires pending_bound { (self.settled + self.pending < 2 ^ 33 + 32) × (1 ≤ count) × (count ≤ 4) }
         ensures { result ≡ read_plain count (bit_at bytes.now) self }
     {
@@ -106,9 +89,10 @@ impl Coder {
         let mut value: u64 = 0;
         let mut place: u64 = 1;
         let mut left = count;
+        // Kept: a for is no plainer, since the next number is looked up after each byte but the last, in the loop's middle.
         loop {
             let symbol = s.target(number, 256);
-            value += place * reversed(&table, symbol) as u64;
+            value += place * u64::from(reversed(&table, symbol));
             s = s.after(static_span(256, symbol));
             left -= 1;
             if left == 0 {
@@ -138,10 +122,7 @@ impl Coder {
     fn holds(self, number: u32) -> bool
         ensures { result ≡ (nat_le self.low number && nat_le number self.high) }
     {
-        if number < self.low {
-            return false;
-        }
-        number <= self.high
+        self.low <= number && number <= self.high
     }
 
     // Whether the bits after the next one, as many as are pending, are its inverse.
@@ -153,23 +134,19 @@ impl Coder {
         is_run(bytes, self.settled + 1, self.pending, 1 - next)
     }
 
-    // What is wrong with data of len bytes (9), or with the limits and counts (18); 0 where nothing is.
-    fn count_fault(self, len: usize) -> u32
-        ensures { result ≡ count_fault self len }
+    // Refused for data of len bytes, or for limits and counts.
+    #[tactic(auto, unfolding(crate::specs::Inside::count_fault))]
+    fn count_fault(self, len: usize) -> Result<(), Fault>
+        ensures { fault_given result ≡ count_fault self len }
     {
         if len > LARGEST_FILE {
-            return OVER_LIMIT;
+            return Err(Fault::OverLimit);
         }
-        if !self.well_formed() {
-            return BAD_STATE;
+        if self.well_formed() && self.settled < TOO_MANY && self.pending < TOO_MANY {
+            Ok(())
+        } else {
+            Err(Fault::BadState)
         }
-        if self.settled >= TOO_MANY {
-            return BAD_STATE;
-        }
-        if self.pending >= TOO_MANY {
-            return BAD_STATE;
-        }
-        0
     }
 
     // Whether the pending bits are inverted, where that is asked.
@@ -177,147 +154,112 @@ impl Coder {
         requires { (self.settled < 2 ^ 32) × (self.pending < 2 ^ 32) × (length bytes.now ≤ largest_file) }
         ensures { result ≡ (not look || pending_inverted self (bit_at bytes.now)) }
     {
-        if !look {
-            return true;
-        }
-        self.pending_inverted(bytes)
+        !look || self.pending_inverted(bytes)
     }
 
-    // What every read begins with, but for the pending bits.
-    pub(crate) fn start(self, bytes: &[u8]) -> Start
-        ensures fault_value { result.fault ≡ read_fault false bytes.now self }
-        ensures number_value { result.fault ≡ 0 → result.number ≡ code self (bit_at bytes.now) }
+    // What every read begins with, but for the pending bits: the number that is found.
+    pub(crate) fn start(self, bytes: &[u8]) -> Result<u32, Fault>
+        ensures { Started bytes.now self result }
     {
-        let fault = self.count_fault(bytes.len());
-        if fault != 0 {
-            return Start { fault, number: 0 };
-        }
+        self.count_fault(bytes.len())?;
         let number = self.code(bytes);
-        if !self.holds(number) {
-            return Start {
-                fault: BAD_STATE,
-                number,
-            };
+        if self.holds(number) {
+            Ok(number)
+        } else {
+            Err(Fault::BadState)
         }
-        Start { fault: 0, number }
     }
 
-    // What is wrong with a value after which the state is this: its settled bits pass the end of data of len bytes, or it is not good.
-    pub(crate) fn value_fault(self, len: usize, good: bool) -> u32
+    // The answer where a value was found in data of len bytes, and this is the state after it: refused where its settled bits pass the
+    // end, or the value is not good. Value and state come apart, since a struct of both would be copied once more at every number.
+    #[tactic(auto, unfolding(crate::specs::Reading::taken))]
+    pub(crate) fn accepted(self, len: usize, value: u32, good: bool) -> Result<Found, Fault>
         requires { len ≤ largest_file }
-        ensures { result ≡ value_number len (found_as 0 self) good }
+        ensures { (s : Interval) → read_given s result ≡ taken (value_number len (found_as value self) good) (found_as value self) s }
     {
         if self.settled > 8 * len as u64 {
-            return TRUNCATED;
+            Err(Fault::Truncated)
+        } else if good {
+            Ok(Found { value, state: self })
+        } else {
+            Err(Fault::OutOfRange)
         }
-        if !good {
-            return OUT_OF_RANGE;
-        }
-        0
-    }
-
-    // The answer where a value was found in data of len bytes. Value and state come apart, since a struct of both would be copied once
-    // more at every number.
-    pub(crate) fn accepted(self, len: usize, value: u32, next: Coder, good: bool) -> Read
-        requires { len ≤ largest_file }
-        ensures { read_given result ≡ taken (value_number len (found_as value next) good) (found_as value next) self }
-    {
-        let fault = next.value_fault(len, good);
-        if fault != 0 {
-            return Read::Refused(fault, self);
-        }
-        Read::Got(value, next)
     }
 
     // A value in a static range: one symbol, or a plain U32 where the range is too large.
+    #[tactic(auto, unfolding(crate::specs::Values::read_static))]
     fn static_value(self, bytes: &[u8], number: u32, range: u32) -> Found
-        requires reading { Reading self (bit_at bytes.now) × (number ≡ code self (bit_at bytes.now)) }
+        requires pointed { Pointed self (bit_at bytes.now) number }
         requires pending_bound { (self.settled + self.pending < 2 ^ 33) × (1 ≤ range) }
         ensures { result ≡ read_static range (bit_at bytes.now) self }
     {
         if range <= Coder::LARGEST_RANGE {
-            return self.symbol_value(bytes, number, range);
+            self.symbol_value(bytes, number, range)
+        } else {
+            self.plain_value(bytes, number, U32_BYTES)
         }
-        self.plain_value(bytes, number, U32_BYTES)
     }
 
-    fn judged_plain(self, bytes: &[u8], look: bool, width: Width) -> Read
-        ensures { read_given result ≡ take_plain look (bytes_in width) bytes.now self }
+    fn judged_plain(self, bytes: &[u8], look: bool, width: Width) -> Result<Found, Fault>
+        ensures { read_given self result ≡ take_plain look (bytes_in width) bytes.now self }
     {
-        let start = self.start(bytes);
-        if start.fault != 0 {
-            return Read::Refused(start.fault, self);
-        }
+        let number = self.start(bytes)?;
         if !self.looked(bytes, look) {
-            return Read::Refused(BAD_STATE, self);
+            return Err(Fault::BadState);
         }
-        let found = self
-            .copied()
-            .plain_value(bytes, start.number, bytes_in(width));
-        let next = found.state;
-        let fault = next.value_fault(bytes.len(), true);
-        if fault != 0 {
-            return Read::Refused(fault, self);
-        }
-        Read::Got(found.value, next)
+        let found = self.copied().plain_value(bytes, number, width.bytes());
+        found.state.accepted(bytes.len(), found.value, true)
     }
 
     // Reads a plain value.
-    pub fn read_plain(self, bytes: &[u8], width: Width) -> Read
-        ensures { read_given result ≡ take_plain true (bytes_in width) bytes.now self }
+    pub fn read_plain(self, bytes: &[u8], width: Width) -> Result<Found, Fault>
+        ensures { read_given self result ≡ take_plain true (bytes_in width) bytes.now self }
     {
         self.judged_plain(bytes, true, width)
     }
 
     // The same for a state that the reader made on the same data: its pending bits are not judged again.
-    pub fn take_plain(self, bytes: &[u8], width: Width) -> Read
-        ensures { read_given result ≡ take_plain false (bytes_in width) bytes.now self }
+    pub fn take_plain(self, bytes: &[u8], width: Width) -> Result<Found, Fault>
+        ensures { read_given self result ≡ take_plain false (bytes_in width) bytes.now self }
     {
         self.judged_plain(bytes, false, width)
     }
 
     // Reads a value in a static range.
-    pub fn read_static(self, bytes: &[u8], range: u32) -> Read
-        ensures { read_given result ≡ take_static true range bytes.now self }
+    pub fn read_static(self, bytes: &[u8], range: u32) -> Result<Found, Fault>
+        ensures { read_given self result ≡ take_static true range bytes.now self }
     {
-        let start = self.start(bytes);
-        if start.fault != 0 {
-            return Read::Refused(start.fault, self);
-        }
+        let number = self.start(bytes)?;
         if !self.pending_inverted(bytes) {
-            return Read::Refused(BAD_STATE, self);
+            return Err(Fault::BadState);
         }
         if range == 0 {
-            return Read::Refused(OUT_OF_RANGE, self);
+            return Err(Fault::OutOfRange);
         }
-        let found = self.static_value(bytes, start.number, range);
-        let next = found.state;
-        let fault = next.value_fault(bytes.len(), found.value < range);
-        if fault != 0 {
-            return Read::Refused(fault, self);
-        }
-        Read::Got(found.value, next)
+        let found = self.static_value(bytes, number, range);
+        found
+            .state
+            .accepted(bytes.len(), found.value, found.value < range)
     }
 
-    // The same for a state that the reader made on the same data: its pending bits are not judged again. Runs of numbers spend their time
-    // here, so it shares no function with the reader above that would keep the compiler from putting it into their loop.
-    pub fn take_static(self, bytes: &[u8], range: u32) -> Read
-        ensures { read_given result ≡ take_static false range bytes.now self }
+    // The same for a state that the reader made on the same data: its pending bits are not judged again.
+    // Kept: one function for both misses a speed bar. Runs of numbers spend their time here, and the compiler then keeps it out of their
+    // loop.
+    pub fn take_static(self, bytes: &[u8], range: u32) -> Result<Found, Fault>
+        ensures { read_given self result ≡ take_static false range bytes.now self }
     {
-        let start = self.start(bytes);
-        if start.fault != 0 {
-            return Read::Refused(start.fault, self);
-        }
+        let number = self.start(bytes)?;
         if range == 0 {
-            return Read::Refused(OUT_OF_RANGE, self);
+            return Err(Fault::OutOfRange);
         }
         if range <= Coder::LARGEST_RANGE {
-            let value = self.target(start.number, range);
+            let value = self.target(number, range);
             let next = self.after(static_span(range, value));
-            return self.accepted(bytes.len(), value, next, value < range);
+            return next.accepted(bytes.len(), value, value < range);
         }
-        let found = self.plain_value(bytes, start.number, U32_BYTES);
-        let next = found.state;
-        self.accepted(bytes.len(), found.value, next, found.value < range)
+        let found = self.plain_value(bytes, number, U32_BYTES);
+        found
+            .state
+            .accepted(bytes.len(), found.value, found.value < range)
     }
 }

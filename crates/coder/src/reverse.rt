@@ -35,7 +35,7 @@ pub(crate) fn reversed(table: &[u8], b: u32) -> u32
     ensures value { result ≡ reversed 8 b }
     ensures upper_bound { result < 256 }
 {
-    table[b as usize] as u32
+    u32::from(table[b as usize])
 }
 
 // A byte with its bits in reverse order, by arithmetic, where a table would be built for each: pairs of bits, of pairs and of halves change

@@ -2,17 +2,17 @@
 ghost use Rattle.fields.specs.Limits.{largest_file};
 ghost use Rattle.std.specs.Prelude.{◌≡◌, ◌+◌, ◌*◌, ◌^◌, ◌<◌, ◌≤◌, ◌||◌, ◌∷◌};
 ghost use Rattle.coder.specs.Bytes.{put_bits};
-ghost use Rattle.coder.specs.Forms.{fits, limits_formed};
+ghost use Rattle.coder.specs.Forms.{fault_given, fits, limits_formed};
 ghost use Rattle.coder.specs.Inside.{Holds, Room, write_room};
 ghost use Rattle.coder.specs.Interval.{Codable, WellFormed};
 ghost use Rattle.coder.specs.Symbols.{after_symbols, byte_span, plain_spans, static_span, static_spans, symbols_bits};
-ghost use Rattle.coder.specs.Writing.{bytes_in, fresh_writer, write_fault, write_plain, write_static, written_given};
+ghost use Rattle.coder.specs.Writing.{NamesWidth, bytes_in, fresh_writer, write_fault, write_plain, write_static, written_given};
 
 use crate::bits::pad;
 use crate::interval::{Coder, Span};
 use crate::reverse::reversed_byte;
 use fields::limits::LARGEST_FILE;
-use fields::numbers::{BAD_STATE, NO_ROOM, OUT_OF_RANGE, OVER_LIMIT};
+use fields::refusal::Fault;
 
 // The bytes of a plain U32.
 pub(crate) const U32_BYTES: u32 = 4;
@@ -21,55 +21,57 @@ pub(crate) const U32_BYTES: u32 = 4;
 const MOST_BITS: u64 = 160;
 
 // A writer's state, and whether a compressed value was written.
-#[derive(Drop)]
+#[derive(Clone, Copy, Debug, PartialEq, Eq)]
 pub struct Writer {
     pub coder: Coder,
     pub compressed: bool,
 }
 
 // Plain values by their width.
-#[derive(Clone, Copy)]
+#[derive(Clone, Copy, Debug, PartialEq, Eq)]
 pub enum Width {
     U8,
     U16,
     U32,
 }
 
-// The number of a refusal comes with the state that was handed in.
-#[derive(Drop)]
-pub enum Written {
-    Done(Writer),
-    Refused(u32, Writer),
-}
+impl TryFrom<u32> for Width {
+    type Error = Fault;
 
-fn either(a: bool, b: bool) -> bool
-    ensures { result ≡ (a || b) }
-{
-    if a {
-        return true;
-    }
-    b
-}
+    ghost try_from_gives = { NamesWidth };
 
-// The largest plain value of a width.
-fn largest_in(width: Width) -> u32
-    ensures { result + 1 ≡ 256 ^ bytes_in width }
-{
-    match width {
-        Width::U8 => 0xFF,
-        Width::U16 => 0xFFFF,
-        Width::U32 => 0xFFFFFFFF,
+    // The width of so many bytes; 10 where there is none.
+    fn try_from(bytes: u32) -> Result<Width, Fault> {
+        match bytes {
+            1 => Ok(Width::U8),
+            2 => Ok(Width::U16),
+            4 => Ok(Width::U32),
+            _ => Err(Fault::OutOfRange),
+        }
     }
 }
 
-// The bytes of a plain value.
-pub(crate) fn bytes_in(width: Width) -> u32
-    ensures { (result ≡ bytes_in width) × (1 ≤ result) × (result ≤ 4) }
-{
-    match width {
-        Width::U8 => 1,
-        Width::U16 => 2,
-        Width::U32 => U32_BYTES,
+impl Width {
+    // The largest plain value.
+    fn largest(self) -> u32
+        ensures { result + 1 ≡ 256 ^ bytes_in self }
+    {
+        match self {
+            Width::U8 => 0xFF,
+            Width::U16 => 0xFFFF,
+            Width::U32 => 0xFFFFFFFF,
+        }
+    }
+
+    // The bytes of a plain value.
+    pub(crate) fn bytes(self) -> u32
+        ensures { (result ≡ bytes_in self) × (1 ≤ result) × (result ≤ 4) }
+    {
+        match self {
+            Width::U8 => 1,
+            Width::U16 => 2,
+            Width::U32 => U32_BYTES,
+        }
     }
 }
 
@@ -92,7 +94,7 @@ pub(crate) fn byte_span(value: u32) -> Span
 }
 
 // A value's first symbol, and the plain bytes after it: so many low bytes of the rest.
-#[derive(Drop)]
+#[derive(Clone, Copy, Debug, PartialEq, Eq)]
 struct Lead {
     span: Span,
     rest: u32,
@@ -105,33 +107,29 @@ fn static_lead(range: u32, value: u32) -> Lead
     ensures codable { (value < range → Codable result.span) × (result.count ≤ 4) }
 {
     if range <= Coder::LARGEST_RANGE {
-        return Lead {
+        Lead {
             span: static_span(range, value),
             rest: 0,
             count: 0,
-        };
-    }
-    Lead {
-        span: byte_span(value),
-        rest: value / 256,
-        count: 3,
+        }
+    } else {
+        Lead {
+            span: byte_span(value),
+            rest: value / 256,
+            count: 3,
+        }
     }
 }
 
 impl Coder {
+    #[tactic(auto, unfolding(crate::specs::Forms::limits_formed))]
     pub(crate) fn well_formed(self) -> bool
         ensures { result ≡ limits_formed self }
     {
-        if self.low >= 0x8000 {
-            return false;
-        }
-        if self.high < 0x8000 {
-            return false;
-        }
-        if self.high > Coder::HIGH_LIMIT {
-            return false;
-        }
-        self.low / 0x4000 + 2 <= self.high / 0x4000
+        self.low < 0x8000
+            && 0x8000 <= self.high
+            && self.high <= Coder::HIGH_LIMIT
+            && self.low / 0x4000 + 2 <= self.high / 0x4000
     }
 
     // The state after the count low bytes of a plain value.
@@ -142,11 +140,9 @@ impl Coder {
     {
         let mut s = self;
         let mut rest = value;
-        let mut left = count;
-        while 0 < left {
+        for _ in 0..count {
             s = s.after(byte_span(rest));
-            rest = rest / 256;
-            left -= 1;
+            rest /= 256;
         }
         s
     }
@@ -161,13 +157,14 @@ impl Coder {
         let mut s = self.narrowed(span);
         let mut rest = value;
         let mut left = count;
+        // Kept: tried, misses a speed bar. With a for over the bytes plain values are written a quarter slower.
         loop {
             s = s.put_renormalized(&mut *buf);
             if left == 0 {
                 return s;
             }
             s = s.narrowed(byte_span(rest));
-            rest = rest / 256;
+            rest /= 256;
             left -= 1;
         }
     }
@@ -178,13 +175,7 @@ impl Coder {
         ensures { result ≡ fits self len }
     {
         let bits = 8 * len as u64;
-        if self.settled > bits {
-            return false;
-        }
-        if self.pending > bits - self.settled {
-            return false;
-        }
-        true
+        self.settled <= bits && self.pending <= bits - self.settled
     }
 
     // Whether a buffer of len bytes has room for the bits of a symbol and of the count low bytes of a plain value. Each symbol adds 32 at
@@ -194,26 +185,23 @@ impl Coder {
         requires len_le_largest_file { (len ≤ largest_file) × (self.settled + self.pending ≤ 8 * len) }
         ensures { result ≡ fits (after_symbols self (span ∷ plain_spans count value)) len }
     {
-        if self.settled + self.pending + MOST_BITS <= 8 * len as u64 {
-            return true;
-        }
-        self.after(span).after_plain(value, count).has_room(len)
+        self.settled + self.pending + MOST_BITS <= 8 * len as u64
+            || self.after(span).after_plain(value, count).has_room(len)
     }
 
-    // What is wrong with a buffer of len bytes (9), or with the state (18); 0 where nothing is.
-    pub(crate) fn write_fault(self, len: usize) -> u32
-        ensures { result ≡ write_fault self len }
+    // Refused for a buffer of len bytes, or for the state.
+    #[tactic(auto, unfolding(crate::specs::Writing::write_fault, crate::specs::Forms::writer_formed))]
+    pub(crate) fn write_fault(self, len: usize) -> Result<(), Fault>
+        ensures { fault_given result ≡ write_fault self len }
     {
         if len > LARGEST_FILE {
-            return OVER_LIMIT;
+            return Err(Fault::OverLimit);
         }
-        if !self.well_formed() {
-            return BAD_STATE;
+        if self.well_formed() && self.has_room(len) {
+            Ok(())
+        } else {
+            Err(Fault::BadState)
         }
-        if !self.has_room(len) {
-            return BAD_STATE;
-        }
-        0
     }
 }
 
@@ -235,51 +223,45 @@ impl Writer {
         span: Span,
         rest: u32,
         count: u32,
-    ) -> Written
+    ) -> Result<Writer, Fault>
         requires well_formed { WellFormed self.coder }
         requires codable { Codable span × (count ≤ 4) }
         requires holds { Holds buf.old self.coder }
-        ensures { written_given result buf.new ≡ write_room buf.old self compresses (span ∷ plain_spans count rest) }
+        ensures { written_given self result buf.new ≡ write_room buf.old self compresses (span ∷ plain_spans count rest) }
     {
         let start = self.coder;
         if !start.has_room_led(span, rest, count, buf.len()) {
-            return Written::Refused(NO_ROOM, self);
+            return Err(Fault::NoRoom);
         }
         pad(&mut *buf, start.settled);
         let next = start.put_led(span, rest, count, &mut *buf);
-        Written::Done(Writer {
+        Ok(Writer {
             coder: next,
-            compressed: either(self.compressed, compresses),
+            compressed: self.compressed || compresses,
         })
     }
 
     // Writes a value in a static range: one symbol, or a plain U32 where the range is too large.
-    pub fn write_static(self, buf: &mut [u8], range: u32, value: u32) -> Written
-        ensures { written_given result buf.new ≡ write_static range buf.old self value }
+    pub fn write_static(self, buf: &mut [u8], range: u32, value: u32) -> Result<Writer, Fault>
+        ensures { written_given self result buf.new ≡ write_static range buf.old self value }
     {
-        let fault = self.coder.write_fault(buf.len());
-        if fault != 0 {
-            return Written::Refused(fault, self);
-        }
+        self.coder.write_fault(buf.len())?;
         if range <= value {
-            return Written::Refused(OUT_OF_RANGE, self);
+            return Err(Fault::OutOfRange);
         }
         let lead = static_lead(range, value);
         self.write_led(buf, true, lead.span, lead.rest, lead.count)
     }
 
     // Writes a plain value of one, two or four bytes.
-    pub fn write_plain(self, buf: &mut [u8], width: Width, value: u32) -> Written
-        ensures { written_given result buf.new ≡ write_plain (bytes_in width) buf.old self value }
+    pub fn write_plain(self, buf: &mut [u8], width: Width, value: u32) -> Result<Writer, Fault>
+        ensures { written_given self result buf.new ≡ write_plain (bytes_in width) buf.old self value }
     {
-        let fault = self.coder.write_fault(buf.len());
-        if fault != 0 {
-            return Written::Refused(fault, self);
+        self.coder.write_fault(buf.len())?;
+        if width.largest() < value {
+            return Err(Fault::OutOfRange);
         }
-        if largest_in(width) < value {
-            return Written::Refused(OUT_OF_RANGE, self);
-        }
-        let more = bytes_in(width) - 1;
+        let more = width.bytes() - 1;
         self.write_led(buf, false, byte_span(value), value / 256, more)
     }
 }

@@ -7,16 +7,14 @@ mod read;
 mod record;
 mod write;
 
-use coder::ending::Ended;
-use coder::histogram::SYMBOLS;
 use coder::interval::Coder;
 use coder::write::Writer;
 use fields::field::bytes_at;
-use input::{Input, argument_count};
+use input::argument_count;
 use machine::{Machine, ROOM};
 use print::{print_bytes, print_end, print_read, print_text, print_weights, print_write};
 use read::read_all;
-use record::{Call, RECORD_SIZE, call_at, in_range, is_dynamic};
+use record::{Call, Operation, RECORD_SIZE, call_of};
 use std::env::Env;
 use std::io;
 use std::rt::Runtime;
@@ -27,8 +25,8 @@ fn state_of(call: Call) -> Coder {
     Coder {
         low: call.a,
         high: call.b,
-        pending: call.c as u64 + (call.e / 2 % 2) as u64 * 0x100000000,
-        settled: call.d as u64 + (call.e / 4 % 2) as u64 * 0x100000000,
+        pending: u64::from(call.c) + u64::from(call.e / 2 % 2) * 0x100000000,
+        settled: u64::from(call.d) + u64::from(call.e / 4 % 2) * 0x100000000,
     }
 }
 
@@ -36,26 +34,6 @@ fn writer_of(call: Call) -> Writer {
     Writer {
         coder: state_of(call),
         compressed: call.e % 2 == 1,
-    }
-}
-
-// The operations that only set something; they print nothing.
-fn run_set(call: Call, machine: Machine) -> Machine {
-    let op = call.op;
-    match op {
-        record::START => Machine::fresh(call.a as usize, (call.b % 256) as u8),
-        record::SET_WRITER => machine.with_writer(writer_of(call)),
-        record::SET_READER => machine.with_reader(state_of(call)),
-        record::SET_WEIGHT => machine.with_weight(call.a, call.b as usize, call.c),
-        record::SET_BYTE => machine.with_byte(call.a as usize, (call.b % 256) as u8),
-        _ => machine.with_length(call.a as usize),
-    }
-}
-
-fn writer_after(ended: Ended) -> Writer {
-    match ended {
-        Ended::Done(_, writer) => writer,
-        Ended::Refused(_, writer) => writer,
     }
 }
 
@@ -67,85 +45,86 @@ fn lent(buffer: &mut [u8], length: usize) -> &mut [u8] {
     &mut buffer[0..length]
 }
 
-// The histogram goes back where the call was in its context.
-fn with_context(call: Call, machine: Machine, histogram: [u32; SYMBOLS]) -> Machine {
-    if is_dynamic(call) {
-        return machine.with_histogram(call.a, histogram);
-    }
-    machine
-}
-
-fn run_write(rt: &impl Print, call: Call, machine: Machine) -> io::Result<Machine> {
-    let mut machine = machine;
-    let mut buffer = machine.buffer;
-    let mut histogram = machine.histogram(call.a);
-    let answer = write_all(
+fn run_write(rt: &impl Print, call: Call, machine: &mut Machine) -> io::Result<()> {
+    let outcome = write_all(
         call,
-        machine.writer,
-        lent(&mut buffer, machine.length),
-        &mut histogram,
+        &mut machine.writer,
+        lent(&mut machine.buffer, machine.length),
+        &mut machine.histograms[call.histogram()],
     );
-    print_write(rt, &answer)?;
-    machine.writer = answer.writer;
-    Ok(with_context(call, machine.with_buffer(buffer), histogram))
+    print_write(rt, outcome, machine.writer)
 }
 
-fn run_end(rt: &impl Print, machine: Machine) -> io::Result<Machine> {
-    let mut machine = machine;
-    let mut buffer = machine.buffer;
-    let ended = machine.writer.finish(lent(&mut buffer, machine.length));
-    print_end(rt, &ended)?;
-    machine.writer = writer_after(ended);
-    Ok(machine.with_buffer(buffer))
-}
-
-fn run_read(rt: &impl Print, call: Call, machine: Machine) -> io::Result<Machine> {
-    let buffer = machine.buffer;
-    let mut histogram = machine.histogram(call.a);
-    let bytes = bytes_at(&buffer, 0, machine.length);
-    let answer = read_all(call, machine.reader, bytes, &mut histogram);
-    print_read(rt, answer, call.op == record::TAKE_DYNAMIC)?;
-    Ok(with_context(call, machine.with_reader(answer.state), histogram))
-}
-
-fn show_bytes(rt: &impl Print, machine: &Machine, length: usize) -> io::Result<()> {
-    let buffer = machine.buffer;
-    print_bytes(rt, bytes_at(&buffer, 0, length))
-}
-
-// A record that is not in range is passed over.
-fn run_call(rt: &impl Print, call: Call, machine: Machine) -> io::Result<Machine> {
-    if !in_range(call) {
-        return Ok(machine);
-    }
-    let op = call.op;
-    match op {
-        record::START..=record::SET_LENGTH => Ok(run_set(call, machine)),
-        record::WRITE_STATIC..=record::WRITE_PLAIN => run_write(rt, call, machine),
-        record::END => run_end(rt, machine),
-        record::READ_STATIC..=record::TAKE_PLAIN => run_read(rt, call, machine),
-        record::SHOW_BYTES => {
-            show_bytes(rt, &machine, call.a as usize)?;
-            Ok(machine)
+fn run_end(rt: &impl Print, machine: &mut Machine) -> io::Result<()> {
+    let buffer = lent(&mut machine.buffer, machine.length);
+    match machine.writer.finish(buffer) {
+        Ok(ended) => {
+            machine.writer = ended.writer;
+            print_end(rt, Ok(ended.used), machine.writer)
         }
+        Err(fault) => print_end(rt, Err(fault), machine.writer),
+    }
+}
+
+fn run_read(rt: &impl Print, call: Call, machine: &mut Machine) -> io::Result<()> {
+    let answer = read_all(
+        call,
+        &mut machine.reader,
+        bytes_at(&machine.buffer, 0, machine.length),
+        &mut machine.histograms[call.histogram()],
+    );
+    let counted = call.operation == Operation::TakeDynamic;
+    print_read(rt, answer, machine.reader, counted)
+}
+
+// Sets what a call names; it prints nothing.
+fn run_set(call: Call, machine: &mut Machine) {
+    let a = call.a as usize;
+    match call.operation {
+        Operation::Start => *machine = Machine::fresh(a, (call.b % 256) as u8),
+        Operation::SetWriter => machine.writer = writer_of(call),
+        Operation::SetReader => machine.reader = state_of(call),
+        Operation::SetWeight => machine.set_weight(a, call.b as usize, call.c),
+        Operation::SetByte => machine.set_byte(a, (call.b % 256) as u8),
+        _ => machine.length = a,
+    }
+}
+
+fn run_call(rt: &impl Print, call: Call, machine: &mut Machine) -> io::Result<()> {
+    match call.operation {
+        Operation::WriteStatic | Operation::WriteDynamic | Operation::WritePlain => {
+            run_write(rt, call, machine)
+        }
+        Operation::End => run_end(rt, machine),
+        Operation::ReadStatic
+        | Operation::ReadDynamic
+        | Operation::ReadPlain
+        | Operation::TakeStatic
+        | Operation::TakeDynamic
+        | Operation::TakePlain => run_read(rt, call, machine),
+        Operation::ShowBytes => { print_bytes(rt, bytes_at(&machine.buffer, 0, call.a as usize)) }
+        Operation::ShowWeights => print_weights(rt, &machine.histograms[call.histogram()]),
         _ => {
-            print_weights(rt, machine.histogram(call.a))?;
-            Ok(machine)
+            run_set(call, machine);
+            Ok(())
         }
     }
 }
 
+// A record whose operation is not known or whose operands are not in range is passed over.
 fn run_script(rt: &impl Print, script: &[u8]) -> io::Result<()> {
     let mut machine = Machine::fresh(ROOM, 0);
-    let count = script.len() / RECORD_SIZE;
-    let mut i: usize = 0;
-    while i < count {
-        machine = run_call(rt, call_at(script, i * RECORD_SIZE), machine)?;
-        i += 1;
+    for record in script.chunks_exact(RECORD_SIZE) {
+        if let Some(call) = call_of(record)
+            && call.is_in_range()
+        {
+            run_call(rt, call, &mut machine)?;
+        }
     }
     Ok(())
 }
 
+// Kept: each program opens and names its files so; a public function for all would owe a promise, and none can say what is printed.
 fn print_name(rt: &(impl Env + Print), i: usize) -> io::Result<()> {
     let mut name = [0u8; 4096];
     let length = rt.arg(i, &mut name).unwrap_or(0);
@@ -157,7 +136,7 @@ fn print_name(rt: &(impl Env + Print), i: usize) -> io::Result<()> {
 // A script has at most 64 KiB.
 fn run(rt: &impl Runtime, i: usize) -> io::Result<()> {
     let mut script = [0u8; 65536];
-    let Input::Bytes(n) = input::read_file(rt, i, &mut script) else {
+    let Some(n) = input::read_file(rt, i, &mut script) else {
         return Ok(());
     };
     print_name(rt, i)?;
@@ -165,11 +144,8 @@ fn run(rt: &impl Runtime, i: usize) -> io::Result<()> {
 }
 
 fn main(rt: HostRuntime) -> io::Result<()> {
-    let count = argument_count(&rt);
-    let mut i: usize = 1;
-    while i < count {
+    for i in 1..argument_count(&rt) {
         run(&rt, i)?;
-        i += 1;
     }
     Ok(())
 }

@@ -1,48 +1,28 @@
 // Calls of the reader.
-use crate::record;
-use crate::record::Call;
+use crate::record::{Call, Operation};
 use coder::histogram::SYMBOLS;
 use coder::interval::Coder;
-use coder::read::Read;
+use coder::read::Found;
 use coder::write::Width;
+use fields::refusal::Fault;
 
-// The sum is that of the values so far, modulo 2^32; the total is that of a histogram read by TAKE_DYNAMIC.
+// The last value, or why it is refused. The sum is that of the values so far, modulo 2^32; the total is that of a histogram read by
+// TakeDynamic.
 #[derive(Clone, Copy)]
 pub struct Answer {
-    pub number: u32,
-    pub value: u32,
-    pub state: Coder,
+    pub last: Result<u32, Fault>,
     pub sum: u32,
     pub total: u32,
 }
 
-fn answer_of(read: Read, sum: u32, total: u32) -> Answer {
-    match read {
-        Read::Got(value, state) => Answer {
-            number: 0,
-            value,
-            state,
-            sum: sum.wrapping_add(value),
-            total,
-        },
-        Read::Refused(number, state) => Answer {
-            number,
-            value: 0,
-            state,
-            sum,
-            total,
-        },
-    }
-}
-
 // The total that the first call is lent.
-fn total_of(call: Call, histogram: [u32; SYMBOLS]) -> u32 {
+fn total_of(call: Call, histogram: &[u32; SYMBOLS]) -> u32 {
     if call.c == 1 {
         return call.b;
     }
     let mut total: u32 = 0;
-    for symbol in 0..SYMBOLS {
-        total = total.wrapping_add(histogram[symbol]);
+    for &weight in histogram {
+        total = total.wrapping_add(weight);
     }
     total
 }
@@ -61,42 +41,39 @@ fn read_once(
     bytes: &[u8],
     histogram: &mut [u32; SYMBOLS],
     total: &mut u32,
-) -> Read {
-    let op = call.op;
-    match op {
-        record::READ_STATIC => state.read_static(bytes, call.a),
-        record::READ_DYNAMIC => state.read_dynamic(bytes, histogram),
-        record::READ_PLAIN => state.read_plain(bytes, width_of(call.a)),
-        record::TAKE_STATIC => state.take_static(bytes, call.a),
-        record::TAKE_DYNAMIC => state.take_dynamic(bytes, histogram, total),
+) -> Result<Found, Fault> {
+    match call.operation {
+        Operation::ReadStatic => state.read_static(bytes, call.a),
+        Operation::ReadDynamic => state.read_dynamic(bytes, histogram),
+        Operation::ReadPlain => state.read_plain(bytes, width_of(call.a)),
+        Operation::TakeStatic => state.take_static(bytes, call.a),
+        Operation::TakeDynamic => state.take_dynamic(bytes, histogram, total),
         _ => state.take_plain(bytes, width_of(call.a)),
     }
 }
 
-// Reads until a call is refused or all are made; the answer is the last one's.
+// Reads until a call is refused or all are made; the state stays as the last one that was read left it.
 pub(crate) fn read_all(
     call: Call,
-    state: Coder,
+    state: &mut Coder,
     bytes: &[u8],
     histogram: &mut [u32; SYMBOLS],
 ) -> Answer {
-    let mut total = total_of(call, *histogram);
-    let mut answer = Answer {
-        number: 0,
-        value: 0,
-        state,
-        sum: 0,
-        total,
-    };
-    let mut left = call.d as u64 + 1;
-    while 0 < left {
-        let last = answer.state;
-        let read = read_once(call, last, bytes, &mut *histogram, &mut total);
-        answer = answer_of(read, answer.sum, total);
-        if answer.number != 0 {
-            return answer;
+    let mut total = total_of(call, &*histogram);
+    let mut last = Ok(0);
+    let mut sum: u32 = 0;
+    for _ in 0..u64::from(call.d) + 1 {
+        match read_once(call, *state, bytes, &mut *histogram, &mut total) {
+            Ok(found) => {
+                *state = found.state;
+                last = Ok(found.value);
+                sum = sum.wrapping_add(found.value);
+            }
+            Err(fault) => {
+                last = Err(fault);
+                break;
+            }
         }
-        left -= 1;
     }
-    answer
+    Answer { last, sum, total }
 }

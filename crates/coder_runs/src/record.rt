@@ -1,50 +1,78 @@
 // A script's records: an operation and five operands, each a U32.
-use crate::machine::ROOM;
+ghost use Rattle.std.specs.Prelude.{◌<◌};
+
+use crate::machine::{HISTOGRAMS, ROOM};
 use coder::histogram::SYMBOLS;
-use fields::field::{U32Field, bytes_at, u32_at};
+use fields::field::field_at;
 
 pub const RECORD_SIZE: usize = 24;
 
-// The lent length is a and every byte b; writer, reader and histograms are fresh.
-pub const START: u32 = 0;
-// Low a, high b, pending c, settled d. In e: bit 0 is compressed, bit 1 adds 2^32 to pending, bit 2 to settled.
-pub const SET_WRITER: u32 = 1;
-// The same, without bit 0 of e.
-pub const SET_READER: u32 = 2;
-// The weight of symbol b in histogram a is c.
-pub const SET_WEIGHT: u32 = 3;
-// The byte at a is b.
-pub const SET_BYTE: u32 = 4;
-// The lent length is a.
-pub const SET_LENGTH: u32 = 5;
-// Writes the value b in the range a, then d values more, each larger by c than the one before. Where e is not 0, each is taken modulo e.
-pub const WRITE_STATIC: u32 = 6;
-// The same with histogram a.
-pub const WRITE_DYNAMIC: u32 = 7;
-// The same as a bytes.
-pub const WRITE_PLAIN: u32 = 8;
-// Ends the coded run.
-pub const END: u32 = 9;
-// Reads d + 1 values in the range a.
-pub const READ_STATIC: u32 = 10;
-// The same with histogram a.
-pub const READ_DYNAMIC: u32 = 11;
-// The same of a bytes.
-pub const READ_PLAIN: u32 = 12;
-// As READ_STATIC, without judging the pending bits.
-pub const TAKE_STATIC: u32 = 13;
-// As READ_DYNAMIC, likewise, with the total b where c is 1, else with the sum of the weights.
-pub const TAKE_DYNAMIC: u32 = 14;
-// As READ_PLAIN, likewise.
-pub const TAKE_PLAIN: u32 = 15;
-// Prints the first a bytes.
-pub const SHOW_BYTES: u32 = 16;
-// Prints the weights above 0 of histogram a.
-pub const SHOW_WEIGHTS: u32 = 17;
+// An operation's number is its place here.
+#[derive(Clone, Copy, PartialEq, Eq)]
+pub enum Operation {
+    // The lent length is a and every byte b; writer, reader and histograms are fresh.
+    Start,
+    // Low a, high b, pending c, settled d. In e: bit 0 is compressed, bit 1 adds 2^32 to pending, bit 2 to settled.
+    SetWriter,
+    // The same, without bit 0 of e.
+    SetReader,
+    // The weight of symbol b in histogram a is c.
+    SetWeight,
+    // The byte at a is b.
+    SetByte,
+    // The lent length is a.
+    SetLength,
+    // Writes the value b in the range a, then d values more, each larger by c than the one before. Where e is not 0, each is taken
+    // modulo e.
+    WriteStatic,
+    // The same with histogram a.
+    WriteDynamic,
+    // The same as a bytes.
+    WritePlain,
+    // Ends the coded run.
+    End,
+    // Reads d + 1 values in the range a.
+    ReadStatic,
+    // The same with histogram a.
+    ReadDynamic,
+    // The same of a bytes.
+    ReadPlain,
+    // As ReadStatic, without judging the pending bits.
+    TakeStatic,
+    // As ReadDynamic, likewise, with the total b where c is 1, else with the sum of the weights.
+    TakeDynamic,
+    // As ReadPlain, likewise.
+    TakePlain,
+    // Prints the first a bytes.
+    ShowBytes,
+    // Prints the weights above 0 of histogram a.
+    ShowWeights,
+}
+
+const OPERATIONS: [Operation; 18] = [
+    Operation::Start,
+    Operation::SetWriter,
+    Operation::SetReader,
+    Operation::SetWeight,
+    Operation::SetByte,
+    Operation::SetLength,
+    Operation::WriteStatic,
+    Operation::WriteDynamic,
+    Operation::WritePlain,
+    Operation::End,
+    Operation::ReadStatic,
+    Operation::ReadDynamic,
+    Operation::ReadPlain,
+    Operation::TakeStatic,
+    Operation::TakeDynamic,
+    Operation::TakePlain,
+    Operation::ShowBytes,
+    Operation::ShowWeights,
+];
 
 #[derive(Clone, Copy)]
 pub struct Call {
-    pub op: u32,
+    pub operation: Operation,
     pub a: u32,
     pub b: u32,
     pub c: u32,
@@ -52,55 +80,46 @@ pub struct Call {
     pub e: u32,
 }
 
-fn operand(bytes: &[u8], at: usize) -> u32 {
-    match u32_at(bytes, at) {
-        U32Field::Value(value) => value,
-        U32Field::Missing => 0,
-    }
+// A record's number, 0 where the record ends before it does.
+fn number_at(record: &[u8], at: usize) -> u32 {
+    field_at::<u32>(record, at).unwrap_or(0)
 }
 
-// The record from a place on, all 0 where the script ends before it does.
-pub(crate) fn call_at(script: &[u8], at: usize) -> Call {
-    let bytes = bytes_at(script, at, RECORD_SIZE);
-    Call {
-        op: operand(bytes, 0),
-        a: operand(bytes, 4),
-        b: operand(bytes, 8),
-        c: operand(bytes, 12),
-        d: operand(bytes, 16),
-        e: operand(bytes, 20),
-    }
+// The call that a record is; none where the operation is not known.
+pub(crate) fn call_of(record: &[u8]) -> Option<Call> {
+    let operation = *OPERATIONS.get(number_at(record, 0) as usize)?;
+    Some(Call {
+        operation,
+        a: number_at(record, 4),
+        b: number_at(record, 8),
+        c: number_at(record, 12),
+        d: number_at(record, 16),
+        e: number_at(record, 20),
+    })
 }
 
-pub(crate) fn is_dynamic(call: Call) -> bool {
-    let op = call.op;
-    match op {
-        WRITE_DYNAMIC | READ_DYNAMIC | TAKE_DYNAMIC => true,
-        _ => false,
+impl Call {
+    // The histogram that the call names.
+    pub(crate) fn histogram(self) -> usize
+        ensures { result < 4 }
+    {
+        self.a as usize % HISTOGRAMS
     }
-}
 
-fn is_width(bytes: usize) -> bool {
-    match bytes {
-        1 | 2 | 4 => true,
-        _ => false,
-    }
-}
-
-// Whether the operation is known and its operands are in their ranges.
-pub(crate) fn in_range(call: Call) -> bool {
-    let op = call.op;
-    let a = call.a as usize;
-    let b = call.b as usize;
-    match op {
-        START | SET_LENGTH | SHOW_BYTES => a <= ROOM,
-        SET_WRITER | SET_READER | WRITE_STATIC | END | READ_STATIC | TAKE_STATIC => true,
-        SET_WEIGHT => a < 4 && b < SYMBOLS,
-        SET_BYTE => a < ROOM,
-        WRITE_DYNAMIC => a < 2,
-        READ_DYNAMIC | TAKE_DYNAMIC => 2 <= a && a < 4,
-        WRITE_PLAIN | READ_PLAIN | TAKE_PLAIN => is_width(a),
-        SHOW_WEIGHTS => a < 4,
-        _ => false,
+    // Whether the operands are in their ranges.
+    pub(crate) fn is_in_range(self) -> bool {
+        let a = self.a as usize;
+        match self.operation {
+            Operation::Start | Operation::SetLength | Operation::ShowBytes => a <= ROOM,
+            Operation::SetWeight => a < HISTOGRAMS && (self.b as usize) < SYMBOLS,
+            Operation::SetByte => a < ROOM,
+            Operation::WriteDynamic => a < 2,
+            Operation::ReadDynamic | Operation::TakeDynamic => 2 <= a && a < HISTOGRAMS,
+            Operation::WritePlain | Operation::ReadPlain | Operation::TakePlain => {
+                matches!(self.a, 1 | 2 | 4)
+            }
+            Operation::ShowWeights => a < HISTOGRAMS,
+            _ => true,
+        }
     }
 }

@@ -1,24 +1,11 @@
 // Calls of the writer.
-use crate::record;
-use crate::record::Call;
+use crate::record::{Call, Operation};
 use coder::histogram::SYMBOLS;
-use coder::write::{Width, Writer, Written};
-
-#[derive(Drop)]
-pub struct Answer {
-    pub number: u32,
-    pub writer: Writer,
-}
-
-fn answer_of(written: Written) -> Answer {
-    match written {
-        Written::Done(writer) => Answer { number: 0, writer },
-        Written::Refused(number, writer) => Answer { number, writer },
-    }
-}
+use coder::write::{Width, Writer};
+use fields::refusal::Fault;
 
 // Writes the low bytes of a value: one, two or four.
-fn write_plain(writer: Writer, buf: &mut [u8], bytes: u32, value: u32) -> Written {
+fn write_plain(writer: Writer, buf: &mut [u8], bytes: u32, value: u32) -> Result<Writer, Fault> {
     match bytes {
         1 => writer.write_plain(buf, Width::U8, value % 0x100),
         2 => writer.write_plain(buf, Width::U16, value % 0x10000),
@@ -32,47 +19,31 @@ fn write_once(
     buf: &mut [u8],
     histogram: &mut [u32; SYMBOLS],
     value: u32,
-) -> Answer {
-    let op = call.op;
-    match op {
-        record::WRITE_STATIC => answer_of(writer.write_static(buf, call.a, value)),
-        record::WRITE_DYNAMIC => answer_of(writer.write_dynamic(buf, histogram, value)),
-        _ => answer_of(write_plain(writer, buf, call.a, value)),
+) -> Result<Writer, Fault> {
+    match call.operation {
+        Operation::WriteStatic => writer.write_static(buf, call.a, value),
+        Operation::WriteDynamic => writer.write_dynamic(buf, histogram, value),
+        _ => write_plain(writer, buf, call.a, value),
     }
 }
 
 // The value modulo `below`, where that is not 0.
 fn reduced(value: u32, below: u32) -> u32 {
-    if below == 0 {
-        return value;
-    }
-    value % below
+    if below == 0 { value } else { value % below }
 }
 
-// Writes a value and those after it, until one is refused; the answer is the last one's.
+// Writes a value and those after it, until one is refused; the writer stays as the last one that was written left it.
 pub(crate) fn write_all(
     call: Call,
-    writer: Writer,
+    writer: &mut Writer,
     buf: &mut [u8],
     histogram: &mut [u32; SYMBOLS],
-) -> Answer {
-    let mut answer = Answer { number: 0, writer };
+) -> Result<(), Fault> {
     let mut value = call.b;
-    let mut left = call.d as u64 + 1;
-    while 0 < left {
-        let last = answer.writer;
-        answer = write_once(
-            call,
-            last,
-            &mut *buf,
-            &mut *histogram,
-            reduced(value, call.e),
-        );
-        if answer.number != 0 {
-            return answer;
-        }
+    for _ in 0..u64::from(call.d) + 1 {
+        let next = reduced(value, call.e);
+        *writer = write_once(call, *writer, &mut *buf, &mut *histogram, next)?;
         value = value.wrapping_add(call.c);
-        left -= 1;
     }
-    answer
+    Ok(())
 }

@@ -2,67 +2,41 @@
 // its length, the answer's number and place, and the number of blocks.
 #![tactic(auto)]
 
-use blocks::file::{Walk, walk_blocks};
-use input::Input;
+use blocks::file::walk_blocks;
 use std::io;
 
-fn print_number(rt: &impl Print, value: u64, end: &[u8]) -> io::Result<()> {
-    print!(rt; "{value}")?;
-    rt.write_all(end)
-}
-
-fn put(file: &mut [u8], i: usize, byte: u8) {
-    if i < file.len() {
-        file[i] = byte;
-    }
-}
-
 // Sets the file size field, where the bytes hold it.
-fn set_file_size(file: &mut [u8], size: usize) {
+fn set_file_size(file: &mut [u8]) {
     if 32 <= file.len() {
-        put(file, 24, (size % 256) as u8);
-        put(file, 25, (size / 256 % 256) as u8);
+        let size = file.len().to_le_bytes();
+        file[24..26].copy_from_slice(&size[..2]);
     }
 }
 
 fn print_walk(rt: &impl Print, file: &mut [u8]) -> io::Result<()> {
     let mut table = [0u32; 500];
     let size = file.len();
-    set_file_size(file, size);
-    print_number(rt, size as u64, b"\t")?;
+    set_file_size(file);
     match walk_blocks(file, &mut table) {
-        Walk::Done { blocks } => {
-            print_number(rt, 0, b"\t")?;
-            print_number(rt, 0, b"\t")?;
-            print_number(rt, blocks as u64, b"\n")
-        }
-        Walk::Refused(e) => {
-            print_number(rt, e.number as u64, b"\t")?;
-            print_number(rt, e.place as u64, b"\t")?;
-            print_number(rt, 0, b"\n")
-        }
+        Ok(blocks) => println!(rt; "{size}\t0\t0\t{blocks}"),
+        Err(e) => println!(rt; "{size}\t{}\t{}\t0", u32::from(e.fault), e.place),
     }
 }
 
-fn print_cuts(rt: &impl Print, file: &mut [u8], size: usize) -> io::Result<()> {
-    let mut n: usize = 0;
-    while n < size {
-        if file.len() < n {
-            return Ok(());
-        }
+fn print_cuts(rt: &impl Print, file: &mut [u8]) -> io::Result<()> {
+    for n in 0..=file.len() {
         print_walk(rt, &mut file[..n])?;
-        n = n + 1;
     }
     Ok(())
 }
 
 fn main(rt: HostRuntime) -> io::Result<()> {
     let mut file = [0u8; 4096];
-    let Input::Bytes(size) = input::read_file(&rt, 1, &mut file) else {
+    let Some(size) = input::read_file(&rt, 1, &mut file) else {
         return Ok(());
     };
     if size < 4096 {
-        print_cuts(&rt, &mut file, size + 1)?;
+        print_cuts(&rt, &mut file[..size])?;
     }
     Ok(())
 }

@@ -19,11 +19,11 @@ one_more s at width i h l =
 
 -- no bytes read yet
 pub zero_bytes : (s : List ℕ) (at width : ℕ)
-    → (width ≤ width) × (0 ≡ little_endian (width - width) s (at + width)) × (0 < 256 ^ (width - width))
+    → (0 ≡ little_endian (width - width) s (at + width)) × (0 < 256 ^ (width - width))
 unfolding little_endian
 zero_bytes s at width =
     let e : width - width ≡ 0 = omega arith in
-    (omega arith, rw e, rw e (omega arith))
+    (rw e, rw e (omega arith))
 
 -- with a byte of at most eight still to come, seven at most have been read
 pub below_seven : (i width value : ℕ) → 0 < i → width ≤ 8 → value < 256 ^ (width - i) → value < 256 ^ 7
@@ -33,10 +33,10 @@ below_seven i width value h l v =
 -- a byte more: the loop's invariant again
 pub step : (s : List ℕ) (at width i value byte : ℕ) → 0 < i → i ≤ width → value ≡ little_endian (width - i) s (at + i) → value < 256 ^ (width - i)
     → byte ≡ get_or s (at + (i - 1)) 0 → byte < 256
-    → (i - 1 ≤ width) × (value * 256 + byte ≡ little_endian (width - (i - 1)) s (at + (i - 1))) × (value * 256 + byte < 256 ^ (width - (i - 1)))
+    → (value * 256 + byte ≡ little_endian (width - (i - 1)) s (at + (i - 1))) × (value * 256 + byte < 256 ^ (width - (i - 1)))
 step s at width i value byte h l e v f b =
     let p : width - (i - 1) ≡ suc (width - i) = omega arith in
-    (omega arith, rw (e, f) (one_more s at width i h l), rw (p, pow-succ' 256 (width - i)) (omega arith))
+    (rw (e, f) (one_more s at width i h l), rw (p, pow-succ' 256 (width - i)) (omega arith))
 
 pub all_bytes : {s : List ℕ} {at width i value : ℕ} → value ≡ little_endian (width - i) s (at + i) → value < 256 ^ (width - i) → i ≡ 0 → ValueOf width s at value
 all_bytes {s} {at} {width} {i} {value} e v z =

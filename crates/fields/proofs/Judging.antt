@@ -7,10 +7,16 @@ use native.Mathlib.Omega.{arith}
 use borrow.Author.Tests.{ltb-false}
 use lib.Dec.{ltb}
 use lib.ListN.{length}
-use Rattle.fields.specs.Numbers.{truncated, bad_name}
+use Rattle.std.specs.Prelude.{Result, Ok, Err}
+use Rattle.std.specs.Result.{IsErrAnd}
+use Rattle.std.proofs.lemmas.Result.{err_from_is_err_and}
+use Rattle.fields.specs.Numbers.{truncated, bad_name, fault_number}
+use Rattle.fields.specs.declared.refusal.Refusal.{Refusal}
 use Rattle.fields.specs.Limits.{longest_name}
-use Rattle.fields.specs.Judged.{Judged, done, refused, on_done, refused_if}
+use Rattle.fields.specs.Judged.{Judged, done, refused, given, on_done, refused_if}
 use Rattle.fields.specs.Field.{field_at}
+use Rattle.fields.specs.Bounds.{part_given, part_of}
+use Rattle.fields.specs.declared.bounds.Bounds.{Bounds}
 use Rattle.fields.specs.Name.{string_at, name_at}
 
 -- a refusal is no value
@@ -46,6 +52,11 @@ field_within width s at v e = ltb-false (length s) (at + width) (passed (ltb (le
 pub told : {R A : Type 0} (given : R → Judged A) {r r' : R} {j : Judged A} → given r ≡ j → r ≡ r' → j ≡ given r'
 told given e f = sym e ∙ ap given f
 
+-- a refusal that `?` hands on
+pub handed_on : {A : Type 0} (r : Result A Refusal) (e : Refusal) → IsErrAnd r (λ (y : Refusal). y ≡ e)
+    → given r ≡ refused (fault_number e.fault) e.place
+handed_on r e h = let p = err_from_is_err_and r h in rw (p.1, p.2)
+
 -- a name that was read lies within the bytes, and is short enough
 pub name_within : (s : List ℕ) (at size : ℕ) → name_at s at ≡ done size → (at + (size + 2) ≤ length s) × (size ≤ longest_name)
 unfolding name_at string_at
@@ -59,3 +70,8 @@ name_within s at size e =
     let w : at + (field.0 + 2) ≤ length s = ltb-false _ _ whole.0 in
     let l : n.0 ≤ longest_name = ltb-false longest_name n.0 short.0 in
     (omega arith, omega arith)
+
+-- the part within bounds that were judged
+pub part_handed : (s : List ℕ) (r : Result Bounds Refusal) → part_given s r ≡ part_of s (given r)
+part_handed s (Ok b) = refl
+part_handed s (Err e) = refl

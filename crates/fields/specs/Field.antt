@@ -1,10 +1,8 @@
 -- Little-endian fields of a list of bytes (01, "Blocks": "Little-endian").
-use Rattle.std.specs.Prelude.{ℕ, zero, suc, ◌+◌, ◌*◌, List, [], length, get_or, take, drop, ltb}
-use Rattle.fields.specs.Numbers.{truncated}
+use Rattle.std.specs.Prelude.{ℕ, zero, suc, ◌+◌, ◌*◌, List, [], length, get_or, take, drop, ltb, Option, Some, None, Result, Ok, Err}
+use Rattle.fields.specs.Numbers.{truncated, fault_number}
 use Rattle.fields.specs.Judged.{Judged, done, refused, refused_if, pick}
-use Rattle.fields.specs.declared.field.U16Field as half
-use Rattle.fields.specs.declared.field.U32Field as word
-use Rattle.fields.specs.declared.field.U64Field as long
+use Rattle.fields.specs.declared.refusal.Refusal.{Refusal}
 
 -- the number whose k bytes stand at `at`, lowest byte first
 unfoldable pub little_endian : ℕ → List ℕ → ℕ → ℕ
@@ -19,15 +17,12 @@ field_at width s at = refused_if (ltb (length s) (at + width)) truncated at (don
 unfoldable pub bytes_at : List ℕ → ℕ → ℕ → List ℕ
 bytes_at s at size = pick (ltb (length s) (at + size)) [] (take size (drop at s))
 
--- 01's number, place and value of each reader's answer at `at`
-unfoldable pub u16_given : ℕ → half.U16Field → Judged ℕ
-u16_given at (half.TheVariants.Value v) = done v
-u16_given at half.TheVariants.Missing = refused truncated at
+-- 01's number, place and value of an answer at `at`
+abbrev pub field_given : {A : Type 0} → (A → ℕ) → ℕ → Option A → Judged ℕ
+field_given value at (Some number) = done (value number)
+field_given value at None = refused truncated at
 
-unfoldable pub u32_given : ℕ → word.U32Field → Judged ℕ
-u32_given at (word.TheVariants.Value v) = done v
-u32_given at word.TheVariants.Missing = refused truncated at
-
-unfoldable pub u64_given : ℕ → long.U64Field → Judged ℕ
-u64_given at (long.TheVariants.Value v) = done v
-u64_given at long.TheVariants.Missing = refused truncated at
+-- the same of an answer that has the refusal in it
+abbrev pub number_given : {A : Type 0} → (A → ℕ) → Result A Refusal → Judged ℕ
+number_given value (Ok number) = done (value number)
+number_given value (Err e) = refused (fault_number e.fault) e.place

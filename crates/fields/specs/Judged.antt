@@ -1,8 +1,8 @@
 -- What judging comes to: a value, or a refusal with 01's number and place. "Fields are judged in file order and the first bad one
 -- decides": a definition that judges reads from top to bottom in that order.
-use Rattle.std.specs.Prelude.{ℕ, Bool, true, false, List, ◌++◌, ltb, length, drop}
-use Rattle.fields.specs.Numbers.{no_room}
-use Rattle.fields.specs.declared.numbers.Refusal.{Refusal}
+use Rattle.std.specs.Prelude.{ℕ, Bool, true, false, List, ◌++◌, ltb, length, drop, Result, Ok, Err}
+use Rattle.fields.specs.Numbers.{no_room, fault_number}
+use Rattle.fields.specs.declared.refusal.Refusal.{Refusal}
 
 pub data Judged (A : Type 0) : Type 0 where
   done : A → Judged A
@@ -13,9 +13,10 @@ abbrev pub number_of : {A : Type 0} → Judged A → ℕ
 number_of (done a) = 0
 number_of (refused n p) = n
 
--- the number and place of a refusal that the code hands back
-abbrev pub refused_by : {A : Type 0} → Refusal → Judged A
-refused_by e = refused e.number e.place
+-- 01's number and place, or the value, of what the code hands back
+abbrev pub given : {A : Type 0} → Result A Refusal → Judged A
+given (Ok a) = done a
+given (Err e) = refused (fault_number e.fault) e.place
 
 -- what follows from a value; a refusal stands
 abbrev pub on_done : {A B : Type 0} → Judged A → (A → Judged B) → Judged B

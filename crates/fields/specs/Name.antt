@@ -2,12 +2,10 @@
 use Rattle.std.specs.Prelude.{ℕ, ◌+◌, Bool, true, false, ◌&&◌, List, [], ◌∷◌, eqb, ltb, length}
 use Rattle.fields.specs.Numbers.{truncated, bad_name}
 use Rattle.fields.specs.Limits.{longest_name}
-use Rattle.fields.specs.Judged.{Judged, done, refused, on_done, refused_if}
+use Rattle.fields.specs.Judged.{Judged, done, on_done, refused_if}
 use Rattle.fields.specs.Field.{field_at}
 use Rattle.fields.specs.Bounds.{part_of}
 use Rattle.fields.specs.declared.bounds.Bounds.{Bounds}
-use Rattle.fields.specs.declared.name.StringField as string
-use Rattle.fields.specs.declared.name.NameField as name
 
 -- the number of bytes of the string at `at`
 unfoldable pub string_at : List ℕ → ℕ → Judged ℕ
@@ -31,13 +29,3 @@ same [] [] = true
 same [] (b ∷ others) = false
 same (a ∷ more) [] = false
 same (a ∷ more) (b ∷ others) = eqb a b && same more others
-
--- 01's number, place and value of each answer at `at`
-unfoldable pub string_given : ℕ → string.StringField → Judged ℕ
-string_given at (string.TheVariants.Size size) = done size
-string_given at string.TheVariants.Missing = refused truncated at
-
-unfoldable pub name_given : ℕ → name.NameField → Judged ℕ
-name_given at (name.TheVariants.Size size) = done size
-name_given at name.TheVariants.Missing = refused truncated at
-name_given at name.TheVariants.Long = refused bad_name at

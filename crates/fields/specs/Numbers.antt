@@ -1,5 +1,7 @@
--- The numbers given back (01, "Numbers given back"); src/numbers.rt has 01's sentence beside each.
+-- The numbers given back (01, "Numbers given back"); src/refusal.rt has 01's sentence beside each.
 use Rattle.std.specs.Prelude.{ℕ}
+use Rattle.fields.specs.declared.refusal.Fault.{Fault}
+use Rattle.fields.specs.declared.refusal.Fault.TheVariants as fault
 
 abbrev pub truncated : ℕ
 truncated = 1
@@ -54,3 +56,24 @@ bytes_left = 17
 
 abbrev pub bad_state : ℕ
 bad_state = 18
+
+-- the number of a fault that the code hands back
+abbrev pub fault_number : Fault → ℕ
+fault_number fault.Truncated = truncated
+fault_number fault.BadHeader = bad_header
+fault_number fault.BadSize = bad_size
+fault_number fault.BadProfile = bad_profile
+fault_number fault.BadPadding = bad_padding
+fault_number fault.UnknownType = unknown_type
+fault_number fault.BadChain = bad_chain
+fault_number fault.BadName = bad_name
+fault_number fault.OverLimit = over_limit
+fault_number fault.OutOfRange = out_of_range
+fault_number fault.OutOfOrder = out_of_order
+fault_number fault.NoRoom = no_room
+fault_number fault.BadSteps = bad_steps
+fault_number fault.NotAllowed = not_allowed
+fault_number fault.CountsDisagree = counts_disagree
+fault_number fault.NoStep = no_step
+fault_number fault.BytesLeft = bytes_left
+fault_number fault.BadState = bad_state

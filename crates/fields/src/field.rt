@@ -1,43 +1,16 @@
-// Little-endian fields of a byte slice. Each reader answers the value, or that the bytes end before the field does.
-ghost use Rattle.std.specs.Prelude.{◌≡◌, ◌+◌, ◌≤◌, length, ltb};
+// Little-endian fields of a byte slice, of every width.
+ghost use Rattle.std.specs.Prelude.{◌≡◌, ℕ, ◌+◌, ◌%◌, ◌^◌, ◌≤◌, length, ltb};
+ghost use Rattle.std.proofs.Common.{rules};
 ghost use Rattle.fields.specs.Inside.{ValueOf};
-ghost use Rattle.fields.specs.Field.{field_at, bytes_at, u16_given, u32_given, u64_given};
+ghost use Rattle.fields.specs.Field.{field_at, field_given, number_given, bytes_at};
 
-#[derive(Drop)]
-pub enum U16Field {
-    Value(u16),
-    Missing,
-}
-
-#[derive(Drop)]
-pub enum U32Field {
-    Value(u32),
-    Missing,
-}
-
-#[derive(Drop)]
-pub enum U64Field {
-    Value(u64),
-    Missing,
-}
-
-fn wide(b: u8) -> u64
-    ensures { result ≡ b }
-{
-    b as u64
-}
+use crate::refusal::{Fault, Refusal};
 
 // Whether `size` bytes from `at` on pass the end of `len` bytes.
 pub(crate) fn passes(len: usize, at: usize, size: usize) -> bool
     ensures { result ≡ ltb len (at + size) }
 {
-    if len < size {
-        true
-    } else if len - size < at {
-        true
-    } else {
-        false
-    }
+    len < size || len - size < at
 }
 
 // The number whose `width` bytes stand at `at`, lowest byte first.
@@ -46,45 +19,85 @@ fn value_at(s: &[u8], at: usize, width: usize) -> u64
     ensures { ValueOf width s.now at result }
 {
     let mut value: u64 = 0;
-    let mut i = width;
-    while 0 < i {
-        i = i - 1;
-        value = value * 256 + wide(s[at + i]);
+    for i in (0..width).rev() {
+        value = value * 256 + u64::from(s[at + i]);
     }
     value
 }
 
-// The U16 at `at`.
-pub fn u16_at(s: &[u8], at: usize) -> U16Field
-    ensures { u16_given at result ≡ field_at 2 s.now at }
+// An unsigned number of so many bytes.
+pub trait Unsigned {
+    ghost WIDTH: { ℕ };
+
+    ghost value: { Self → ℕ };
+
+    const WIDTH: usize;
+
+    // The number that so many low bytes have.
+    fn of_low_bytes(number: u64) -> Self
+        ensures { value result ≡ number % 256 ^ WIDTH };
+
+    ghost at_most_eight: { WIDTH ≤ 8 };
+}
+
+impl Unsigned for u16 {
+    ghost WIDTH = { 2 };
+
+    ghost value = { λ number. number };
+
+    const WIDTH: usize = 2;
+
+    fn of_low_bytes(number: u64) -> u16 {
+        (number % 0x10000) as u16
+    }
+
+    ghost at_most_eight = { Prim.search rules };
+}
+
+impl Unsigned for u32 {
+    ghost WIDTH = { 4 };
+
+    ghost value = { λ number. number };
+
+    const WIDTH: usize = 4;
+
+    fn of_low_bytes(number: u64) -> u32 {
+        (number % 0x100000000) as u32
+    }
+
+    ghost at_most_eight = { Prim.search rules };
+}
+
+impl Unsigned for u64 {
+    ghost WIDTH = { 8 };
+
+    ghost value = { λ number. number };
+
+    const WIDTH: usize = 8;
+
+    fn of_low_bytes(number: u64) -> u64 {
+        number
+    }
+
+    ghost at_most_eight = { Prim.search rules };
+}
+
+// The number at `at`, lowest byte first; none where the bytes end before it does.
+pub fn field_at<T: Unsigned>(s: &[u8], at: usize) -> Option<T>
+    ensures { field_given T.value at result ≡ field_at T.WIDTH s.now at }
 {
-    if passes(s.len(), at, 2) {
-        U16Field::Missing
+    if passes(s.len(), at, T::WIDTH) {
+        None
     } else {
-        U16Field::Value(value_at(s, at, 2) as u16)
+        Some(T::of_low_bytes(value_at(s, at, T::WIDTH)))
     }
 }
 
-// The U32 at `at`.
-pub fn u32_at(s: &[u8], at: usize) -> U32Field
-    ensures { u32_given at result ≡ field_at 4 s.now at }
+// The number at `at`, lowest byte first; a truncated field is refused at its place.
+pub fn read_at<T: Unsigned>(s: &[u8], at: usize) -> Result<T, Refusal>
+    ensures { number_given T.value result ≡ field_at T.WIDTH s.now at }
 {
-    if passes(s.len(), at, 4) {
-        U32Field::Missing
-    } else {
-        U32Field::Value(value_at(s, at, 4) as u32)
-    }
-}
-
-// The U64 at `at`.
-pub fn u64_at(s: &[u8], at: usize) -> U64Field
-    ensures { u64_given at result ≡ field_at 8 s.now at }
-{
-    if passes(s.len(), at, 8) {
-        U64Field::Missing
-    } else {
-        U64Field::Value(value_at(s, at, 8))
-    }
+    field_at(s, at).ok_or(Fault::Truncated.at(at))
 }
 
 // The `size` bytes from `at` on, as a part of `s`; the empty part where they pass its end.

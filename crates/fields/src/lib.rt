@@ -5,5 +5,5 @@ pub mod bounds;
 pub mod field;
 pub mod limits;
 pub mod name;
-pub mod numbers;
+pub mod refusal;
 pub mod words;

@@ -10,13 +10,6 @@ use std::io;
 use std::io::Read;
 use std::rt::Runtime;
 
-// So many bytes at the start of the buffer, or nothing where opening or reading failed. Where the buffer is full, more may follow.
-#[derive(Drop)]
-pub enum Input {
-    Bytes(usize),
-    Failed,
-}
-
 // The system's words for an error, without the number that stands after them.
 fn words_of(error: &str) -> &str {
     match error.split_once(" (os error ") {
@@ -34,44 +27,49 @@ fn fail(rt: &impl Runtime, name: &str, error: io::Error) {
 }
 
 // Reads once. `name` is how a message calls the input.
-fn read_some(rt: &impl Runtime, reader: &mut impl Read, buf: &mut [u8], name: &str) -> Input
+fn read_some(rt: &impl Runtime, reader: &mut impl Read, buf: &mut [u8], name: &str) -> Option<usize>
     ensures { InputFits (length buf.new) result }
 {
     match reader.read(buf) {
-        Ok(got) => Input::Bytes(got),
+        Ok(got) => Some(got),
         Err(error) => {
             fail(rt, name, error);
-            Input::Failed
+            None
         }
     }
 }
 
 // Reads until the input ends or the buffer is full.
-fn read_to_end(rt: &impl Runtime, reader: &mut impl Read, buf: &mut [u8], name: &str) -> Input
+// Kept: a turn goes on by as many bytes as were read, so `for` over the places is no plainer.
+fn read_to_end(
+    rt: &impl Runtime,
+    reader: &mut impl Read,
+    buf: &mut [u8],
+    name: &str,
+) -> Option<usize>
     ensures { InputFits (length buf.new) result }
 {
     let mut done: usize = 0;
     while done < buf.len() {
-        let Input::Bytes(n) = read_some(rt, &mut *reader, &mut buf[done..], name) else {
-            return Input::Failed;
-        };
+        let n = read_some(rt, &mut *reader, &mut buf[done..], name)?;
         if n == 0 {
-            return Input::Bytes(done);
+            break;
         }
-        done = done + n;
+        done += n;
     }
-    Input::Bytes(done)
+    Some(done)
 }
 
-// Reads standard input.
-pub fn read_standard(rt: &impl Runtime, buf: &mut [u8]) -> Input
+// Reads standard input to the start of the buffer, and answers how many bytes; none where reading failed, which is then told. Where the
+// buffer is full, more may follow.
+pub fn read_standard(rt: &impl Runtime, buf: &mut [u8]) -> Option<usize>
     ensures { InputFits (length buf.new) result }
 {
     read_to_end(rt, &mut rt.reader(), buf, "standard input")
 }
 
-// Reads the file named by argument `i`, from 1.
-pub fn read_file(rt: &impl Runtime, i: usize, buf: &mut [u8]) -> Input
+// Reads the file named by argument `i`, from 1, in the same way.
+pub fn read_file(rt: &impl Runtime, i: usize, buf: &mut [u8]) -> Option<usize>
     ensures { InputFits (length buf.new) result }
 {
     let mut path = [0u8; 4096];
@@ -79,22 +77,22 @@ pub fn read_file(rt: &impl Runtime, i: usize, buf: &mut [u8]) -> Input
         Ok(length) => length,
         Err(FillError::NotPresent) => {
             let _ = eprintln!(rt; "argument: Invalid argument");
-            return Input::Failed;
+            return None;
         }
         Err(FillError::TooLong) => {
             let _ = eprintln!(rt; "argument: File name too long");
-            return Input::Failed;
+            return None;
         }
     };
     let Ok(path) = str::from_utf8(&path[..length]) else {
         let _ = eprintln!(rt; "argument: not UTF-8");
-        return Input::Failed;
+        return None;
     };
     match File::open(rt, path) {
         Ok(mut file) => read_to_end(rt, &mut file, buf, path),
         Err(error) => {
             fail(rt, path, error);
-            Input::Failed
+            None
         }
     }
 }

@@ -3,19 +3,15 @@
 
 use fields::field::bytes_at;
 use fields::limits::LARGEST_PROGRAM_FILE;
-use input::{Input, argument_count};
-use listing::Listing;
+use input::argument_count;
 use std::io;
 
-// Writes the listing of the bytes that were read.
-fn list(rt: &(impl Print + Eprint), input: Input, file: &[u8]) -> io::Result<()> {
+// Writes the listing of a file.
+fn list(rt: &(impl Print + Eprint), file: &[u8]) -> io::Result<()> {
     let mut text = [0u8; 262144];
-    let Input::Bytes(n) = input else {
-        return Ok(());
-    };
-    match listing::list_file(bytes_at(file, 0, n), LARGEST_PROGRAM_FILE, &mut text) {
-        Listing::Refused(_) => eprintln!(rt; "list_blocks: the listing is too long"),
-        Listing::Written { bytes } => rt.write_all(bytes_at(&text, 0, bytes)),
+    match listing::list_file(file, LARGEST_PROGRAM_FILE, &mut text) {
+        Err(_) => eprintln!(rt; "list_blocks: the listing is too long"),
+        Ok(bytes) => rt.write_all(bytes_at(&text, 0, bytes)),
     }
 }
 
@@ -25,11 +21,13 @@ fn main(rt: HostRuntime) -> io::Result<()> {
     if 2 < arguments {
         return eprintln!(rt; "usage: list_blocks [FILE]");
     }
-    if arguments == 2 {
-        let input = input::read_file(&rt, 1, &mut file);
-        list(&rt, input, &file)
+    let input = if arguments == 2 {
+        input::read_file(&rt, 1, &mut file)
     } else {
-        let input = input::read_standard(&rt, &mut file);
-        list(&rt, input, &file)
-    }
+        input::read_standard(&rt, &mut file)
+    };
+    let Some(n) = input else {
+        return Ok(());
+    };
+    list(&rt, bytes_at(&file, 0, n))
 }

@@ -10,7 +10,6 @@ use lib.ListN.{length, take, drop, length-append, length-drop}
 use lib.Seq.{sets, take_all, take_at, drop_at, drop-drop, drop-length}
 use Rattle.fields.specs.Numbers.{no_room, over_limit}
 use Rattle.fields.specs.Judged.{done, refused, buffer_after}
-use Rattle.fields.specs.declared.numbers.Refusal.{Refusal}
 use Rattle.fields.proofs.Judging.{passed}
 use Rattle.text.specs.Digits.{decimal_field}
 use Rattle.text.proofs.Stores.{stores_on}
@@ -88,18 +87,25 @@ end-stored number blocks r₁ r₂ t₀ t₁ t₂ t₃ e₁ l₁ e₂ l₂ e₃ 
     ∙ stores_on t₀ t₁ 0 end_word (decimal_field number tab ++ decimal_field blocks line_feed) r₁ e₁ l₁
 
 -- a refused file's listing, its two pieces stored
-module _ (e : Refusal) (t₀ t₁ p : List ℕ) (r size : ℕ) where
-  pub refused_stored : t₁ ≡ sets t₀ 0 first_line → r ≡ 9 → p ≡ sets (take (length t₁ - r) (drop r t₁)) 0 (end_line e.number 0)
-      → size ≡ 9 + length (end_line e.number 0) → size ≤ length t₀
-      → (done size ≡ written (listing_with (refused e.number e.place) []) t₀)
-      × (put_mid r (length t₁ - r) t₁ p ≡ buffer_after (written (listing_with (refused e.number e.place) []) t₀) (listing_with (refused e.number e.place) []) t₀)
+module _ (number place : ℕ) (t₀ t₁ p : List ℕ) (r size : ℕ) where
+  pub refused_stored : t₁ ≡ sets t₀ 0 first_line → r ≡ 9 → p ≡ sets (take (length t₁ - r) (drop r t₁)) 0 (end_line number 0)
+      → size ≡ 9 + length (end_line number 0) → size ≤ length t₀
+      → (done size ≡ written (listing_with (refused number place) []) t₀)
+      × (put_mid r (length t₁ - r) t₁ p ≡ buffer_after (written (listing_with (refused number place) []) t₀) (listing_with (refused number place) []) t₀)
   unfolding listing_with
   refused_stored f l q n h =
-      let end = end_line e.number 0 in
+      let end = end_line number 0 in
       let first : t₁ ≡ first_line ++ drop 9 t₀ = f ∙ at_start first_line t₀ (omega arith) in
       let room : length end ≤ length (drop 9 t₀) = rw (length-drop 9 t₀) (omega arith) in
       let all = tail_piece first_line (drop 9 t₀) t₁ r first l end p room q ∙ two_pieces t₀ first_line end in
       answer_written (first_line ++ end) t₀ _ size (n ∙ sym (length-append first_line end)) h all
+
+-- the lines of a good file fit behind the first line
+pub lines_taken : (s : List ℕ) (told : Told) (t₀ t₁ : List ℕ) (r : ℕ) → lines_of s ≡ done told → t₁ ≡ sets t₀ 0 first_line → r ≡ 9
+    → 9 + length (end_line 0 told.blocks) + told.bytes ≤ length t₀ → lines_in s (take (length t₁ - r) (drop r t₁)) ≡ done told
+lines_taken s told t₀ t₁ r j f l h =
+    let first : t₁ ≡ first_line ++ drop 9 t₀ = f ∙ at_start first_line t₀ (omega arith) in
+    rw (tail_part first_line (drop 9 t₀) t₁ r first l) (lines_fit s (drop 9 t₀) told j (rw (length-drop 9 t₀) (omega arith)))
 
 -- a good file's listing, its three pieces stored
 module _ (s : List ℕ) (told : Told) (t₀ t₁ t₂ p₁ p₂ : List ℕ) (r size : ℕ) where
@@ -127,11 +133,11 @@ module _ (s : List ℕ) (told : Told) (t₀ t₁ t₂ p₁ p₂ : List ℕ) (r s
       rw (done_listing s told j) (answer_written (first_line ++ (lines ++ end)) t₀ _ size (omega arith) h third)
 
 -- a listing that the buffer can't hold
-pub refused_short : (e : Refusal) (t : List ℕ) → length t < 9 + length (end_line e.number 0)
-    → (refused no_room 0 ≡ written (listing_with (refused e.number e.place) []) t)
-    × (t ≡ buffer_after (written (listing_with (refused e.number e.place) []) t) (listing_with (refused e.number e.place) []) t)
+pub refused_short : (number place : ℕ) (t : List ℕ) → length t < 9 + length (end_line number 0)
+    → (refused no_room 0 ≡ written (listing_with (refused number place) []) t)
+    × (t ≡ buffer_after (written (listing_with (refused number place) []) t) (listing_with (refused number place) []) t)
 unfolding listing_with
-refused_short e t h = answer_short (first_line ++ end_line e.number 0) t (rw (length-append first_line (end_line e.number 0)) h)
+refused_short number place t h = answer_short (first_line ++ end_line number 0) t (rw (length-append first_line (end_line number 0)) h)
 
 pub done_short : (s : List ℕ) (told : Told) (t : List ℕ) → lines_of s ≡ done told → length t < 9 + length (end_line 0 told.blocks) + told.bytes
     → (refused no_room 0 ≡ written (listing_with (lines_of s) (file_lines s)) t)
@@ -148,10 +154,10 @@ pub within_limit : (limit : ℕ) (s : List ℕ) (told : Told) → file_within li
 unfolding file_within
 within_limit limit s told e = (passed (ltb limit (length s)) over_limit 0 (lines_of s) told e).1
 
-pub listing_refused : (limit : ℕ) (s : List ℕ) (e : Refusal) → file_within limit s ≡ refused e.number e.place
-    → listing_of limit s ≡ listing_with (refused e.number e.place) []
+pub listing_refused : (limit : ℕ) (s : List ℕ) (number place : ℕ) → file_within limit s ≡ refused number place
+    → listing_of limit s ≡ listing_with (refused number place) []
 unfolding listing_of listing_with
-listing_refused limit s e q = rw q
+listing_refused limit s number place q = rw q
 
 pub listing_done : (limit : ℕ) (s : List ℕ) (told : Told) → file_within limit s ≡ done told → listing_of limit s ≡ listing_with (lines_of s) (file_lines s)
 unfolding listing_of

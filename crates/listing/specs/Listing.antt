@@ -2,13 +2,11 @@
 -- before its contents; number and block count; a refused file gives only first and last line, count 0".
 use Rattle.std.specs.Prelude.{ℕ, List, [], ◌∷◌, ◌++◌, ltb, length}
 use Rattle.fields.specs.Numbers.{over_limit}
-use Rattle.fields.specs.Judged.{Judged, done, refused, refused_by, refused_if, room_for, buffer_after}
+use Rattle.fields.specs.Judged.{Judged, done, refused, refused_if, room_for, buffer_after}
 use Rattle.text.specs.Digits.{decimal_field}
 use Rattle.blocks.specs.Told.{tab, line_feed}
 use Rattle.blocks.specs.File.{file_lines, lines_of}
 use Rattle.blocks.specs.declared.tell.Told.{Told}
-use Rattle.listing.specs.declared.Listing.{Listing}
-use Rattle.listing.specs.declared.Listing.TheVariants.{Written, Refused}
 
 -- "blocks", a tab, "1" and a line feed
 abbrev pub first_line : List ℕ
@@ -41,8 +39,3 @@ written result text = room_for result text (length result)
 -- the buffer then
 abbrev pub text_after : List ℕ → List ℕ → List ℕ
 text_after result text = buffer_after (written result text) result text
-
--- 01's number, place and value of each case
-abbrev pub listing_given : Listing → Judged ℕ
-listing_given (Written bytes) = done bytes
-listing_given (Refused e) = refused_by e

@@ -3,21 +3,15 @@
 
 ghost use Rattle.std.specs.Prelude.{◌≡◌, [], length};
 ghost use Rattle.std.proofs.lemmas.List.Edits.{sets};
-ghost use Rattle.fields.specs.Numbers.{no_room};
-ghost use Rattle.fields.specs.Judged.{done, refused};
-ghost use Rattle.blocks.specs.File.{file_lines, lines_given, lines_of};
-ghost use Rattle.listing.specs.Listing.{first_line, end_line, file_within, listing_with, listing_of, written, text_after, listing_given};
+ghost use Rattle.fields.specs.Numbers.{fault_number};
+ghost use Rattle.fields.specs.Judged.{done, refused, given};
+ghost use Rattle.blocks.specs.File.{file_lines, lines_of};
+ghost use Rattle.listing.specs.Listing.{first_line, end_line, file_within, listing_with, listing_of, written, text_after};
 
-use blocks::file::{Lines, lines_size, put_lines};
-use fields::numbers::{NO_ROOM, OVER_LIMIT, Refusal};
+use blocks::file::{lines_size, put_lines};
+use blocks::tell::Told;
+use fields::refusal::{Fault, Refusal};
 use text::line::{put_decimal, put_word};
-
-// The answer: the text was written, in so many bytes.
-#[derive(Drop)]
-pub enum Listing {
-    Written { bytes: usize },
-    Refused(Refusal),
-}
 
 // Bytes of the first line.
 const FIRST_SIZE: usize = 9;
@@ -36,7 +30,7 @@ fn put_end(text: &mut [u8], number: u32, blocks: usize) -> usize
     ensures text_after { text.new ≡ sets text.old 0 (end_line number blocks) }
 {
     let mut size = put_word(text, 0, b"end\t");
-    size = size + put_decimal(text, size, number as u64, b'\t');
+    size += put_decimal(text, size, u64::from(number), b'\t');
     size + put_decimal(text, size, blocks as u64, b'\n')
 }
 
@@ -44,77 +38,59 @@ fn put_end(text: &mut [u8], number: u32, blocks: usize) -> usize
 fn end_size(number: u32, blocks: usize) -> usize
     ensures { result ≡ length (end_line number blocks) }
 {
-    let mut none = [0u8; 1];
-    put_end(&mut none, number, blocks)
-}
-
-fn no_room() -> Listing
-    ensures { listing_given result ≡ refused no_room 0 }
-{
-    Listing::Refused(Refusal {
-        number: NO_ROOM,
-        place: 0,
-    })
+    put_end(&mut [], number, blocks)
 }
 
 // The blocks of a file of at most `limit` bytes.
-fn lines_within(file: &[u8], limit: usize) -> Lines
-    ensures { lines_given result ≡ file_within limit file.now }
+fn lines_within(file: &[u8], limit: usize) -> Result<Told, Refusal>
+    ensures { given result ≡ file_within limit file.now }
 {
     if limit < file.len() {
-        return Lines::Refused(Refusal {
-            number: OVER_LIMIT,
-            place: 0,
-        });
+        return Err(Fault::OverLimit.at(0));
     }
     lines_size(file)
 }
 
 // The listing of a refused file: its first and last line, count 0.
-fn put_refused(text: &mut [u8], e: Refusal) -> Listing
-    ensures result_value { listing_given result ≡ written (listing_with (refused e.number e.place) []) text.old }
-    ensures text_after { text.new ≡ text_after (listing_with (refused e.number e.place) []) text.old }
+fn put_refused(text: &mut [u8], e: Refusal) -> Result<usize, Refusal>
+    ensures result_value { given result ≡ written (listing_with (refused (fault_number e.fault) e.place) []) text.old }
+    ensures text_after { text.new ≡ text_after (listing_with (refused (fault_number e.fault) e.place) []) text.old }
 {
-    let number = e.number;
+    let number = u32::from(e.fault);
     let size = FIRST_SIZE + end_size(number, 0);
     if text.len() < size {
-        return no_room();
+        return Err(Fault::NoRoom.at(0));
     }
     let from = put_first(text);
     put_end(&mut text[from..], number, 0);
-    Listing::Written { bytes: size }
+    Ok(size)
 }
 
-// The listing of a file whose lines take `bytes` bytes.
-fn put_done(file: &[u8], text: &mut [u8], blocks: usize, bytes: usize) -> Listing
-    requires { lines_of file.now ≡ done (record { blocks = blocks; bytes = bytes }) }
-    ensures result_value { listing_given result ≡ written (listing_with (lines_of file.now) (file_lines file.now)) text.old }
+// The listing of a file of which so much is told.
+fn put_done(file: &[u8], text: &mut [u8], told: Told) -> Result<usize, Refusal>
+    requires { lines_of file.now ≡ done told }
+    ensures result_value { given result ≡ written (listing_with (lines_of file.now) (file_lines file.now)) text.old }
     ensures text_after { text.new ≡ text_after (listing_with (lines_of file.now) (file_lines file.now)) text.old }
 {
-    let lines = FIRST_SIZE + end_size(0, blocks);
-    if text.len() < lines {
-        return no_room();
-    }
-    if text.len() - lines < bytes {
-        return no_room();
+    let lines = FIRST_SIZE + end_size(0, told.blocks);
+    if text.len() < lines || text.len() - lines < told.bytes {
+        return Err(Fault::NoRoom.at(0));
     }
     let from = put_first(text);
-    let end = from + bytes;
-    put_lines(file, &mut text[from..]);
-    put_end(&mut text[end..], 0, blocks);
-    Listing::Written {
-        bytes: lines + bytes,
-    }
+    let end = from + told.bytes;
+    put_lines(file, &mut text[from..])?;
+    put_end(&mut text[end..], 0, told.blocks);
+    Ok(lines + told.bytes)
 }
 
-// Puts the listing of a file of at most `limit` bytes at the start of `text`; a larger file is listed as refused. A text that can't
-// hold the listing stays as it was.
-pub fn list_file(file: &[u8], limit: usize, text: &mut [u8]) -> Listing
-    ensures result_value { listing_given result ≡ written (listing_of limit file.now) text.old }
+// Puts the listing of a file of at most `limit` bytes at the start of `text`, and answers how many bytes that is; a larger file is
+// listed as refused. A text that can't hold the listing stays as it was.
+pub fn list_file(file: &[u8], limit: usize, text: &mut [u8]) -> Result<usize, Refusal>
+    ensures result_value { given result ≡ written (listing_of limit file.now) text.old }
     ensures text_after { text.new ≡ text_after (listing_of limit file.now) text.old }
 {
     match lines_within(file, limit) {
-        Lines::Refused(e) => put_refused(text, e),
-        Lines::Done { blocks, bytes } => put_done(file, text, blocks, bytes),
+        Err(e) => put_refused(text, e),
+        Ok(told) => put_done(file, text, told),
     }
 }

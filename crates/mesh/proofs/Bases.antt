@@ -1,4 +1,5 @@
 -- Pools and faces of a continuation. A run of fields that are not judged is cut only by the end of the bytes.
+use Rattle.std.specs.Prelude.{Result, Ok, Err, ltb}
 use Prim.Native.Nat.{ℕ, zero, suc, ◌+◌, ◌-◌, ◌*◌, ◌/◌, ◌≤◌, ◌<◌}
 use mathlib.Core.Path.{◌≡◌, ◌∙◌, ap, refl, sym}
 use mathlib.Core.Bool.{true, false, not}
@@ -6,34 +7,31 @@ use mathlib.Core.Logic.{⊎_elim}
 use mathlib.Core.List.{List, [], ◌∷◌, ◌++◌}
 use native.Mathlib.Decide.{dec_lt}
 use native.Mathlib.Nat.{eq-or-lt_of_le}
-use native.Mathlib.Numerals.{add-one}
 use native.Mathlib.Omega.{arith}
-use borrow.Author.Tests.{le-ltb, lt-ltb}
+use borrow.Author.Tests.{le-ltb, lt-ltb, ltb-false}
 use mir.Syntax.{w8}
 use mir.Val.{Fits}
 use lib.ListN.{drop, get_or, length, length-replicate, replicate, take}
 use lib.Seq.{sets}
 use Rattle.fields.specs.Field.{field_at, little_endian}
-use Rattle.fields.specs.Judged.{Judged, done, refused, on_done}
+use Rattle.fields.specs.Judged.{done, refused, on_done}
 use Rattle.fields.specs.Limits.{any_number, largest_file}
 use Rattle.fields.specs.Name.{name_at, name_part, same}
 use Rattle.fields.specs.Numbers.{bad_name, no_room, over_limit, truncated}
-use Rattle.fields.specs.declared.numbers.Refusal.{Refusal}
-use Rattle.fields.proofs.Judging.{name_within, not_done, passed, value_before}
-use Rattle.mesh.specs.Run.{Ended, ruled_at, run_at, unjudged, values_of}
-use Rattle.mesh.specs.Corners.{face_words}
-use Rattle.mesh.specs.Base.{InPart, Mesh, Tables, answered, base_of, base_rules, has_room, head_of, lengths_of, mesh_of, pool_words, pools_at, read, refused_in, table_of, tables_after, words_in}
+use Rattle.fields.specs.declared.refusal.Refusal.{Refusal}
+use Rattle.fields.specs.declared.refusal.Fault.{Fault}
+use Rattle.fields.proofs.Judging.{name_within, passed, value_before}
+use Rattle.mesh.specs.Run.{ruled_at, run_at, unjudged, values_of}
+use Rattle.mesh.specs.Base.{InPart, Mesh, Tables, answered, base_of, base_rules, has_room, head_of, lengths_of, mesh_of, sized, pool_words, pools_at, read, refused_in, table_of, tables_after, words_in}
 use Rattle.mesh.specs.Declaration.{declaration_of, mesh_name}
 use Rattle.mesh.specs.Faces.{faces_of}
-use Rattle.mesh.specs.Inside.{ContentsFit, FacesFit, JudgedFits, base_faces, contents_at, counts_from, ended_given, faces_given, faces_in, faces_start, head_given, in_continuation, judged_given, mesh_from, next_given, pool_at, pool_numbers, rules_from, stored_faces, stored_run, words_before, words_or}
+use Rattle.mesh.specs.Inside.{ContentsFit, FacesFit, JudgedFits, base_faces, contents_at, counts_from, ended_given, faces_given, faces_in, faces_start, mesh_from, placed, pool_at, pool_numbers, rules_from, stored_faces, stored_run, words_before, words_or}
 use Rattle.mesh.specs.declared.declaration.Declaration.{Declaration}
+use Rattle.mesh.specs.declared.run.Ended.{Ended}
 use Rattle.mesh.specs.declared.base.Part.{Part}
 use Rattle.mesh.specs.declared.base.Part as part
-use Rattle.mesh.specs.declared.faces.Faces as faces
-use Rattle.mesh.specs.declared.head.Head.{Head}
-use Rattle.mesh.specs.declared.run.Next.{Next}
-use Rattle.mesh.specs.declared.run.Next.TheVariants.{At, Refused}
-use Rattle.mesh.proofs.Chains.{ended_value, stored_cleared, to_end}
+use Rattle.mesh.specs.declared.base.MeshRefusal.{MeshRefusal}
+use Rattle.mesh.proofs.Chains.{ended_value, sets_full, stored_cleared, to_end}
 use Rattle.mesh.proofs.FaceRuns.{faces_length, faces_stored}
 use Rattle.mesh.proofs.Heads.{rules_length}
 use Rattle.mesh.proofs.Rooms.{room_at}
@@ -166,48 +164,36 @@ faces_there s declaration counts at w p = rw (to_end s (at + 4 * w), p)
 
 -- ---- tables that are filled
 
--- a pool's words stand within the bytes, and are not too many
-pub pool_asked : (counts : List ℕ) (at k len w words : ℕ) → w ≡ words_before counts k → words ≡ words_in counts (k + 1) → pool_at at counts (suc k) ≤ len
-    → len ≤ largest_file → (at + 4 * w + 4 * words ≤ len) × (words < 0x1000000)
+-- a pool's words end where the next pool starts
+pub pool_within : (counts : List ℕ) (at k : ℕ) → pool_at at counts k + 4 * words_in counts (suc k) ≡ pool_at at counts (suc k)
 unfolding words_before
-pool_asked counts at k len w words e f h small =
-    let g : words ≡ words_in counts (suc k) = f ∙ ap (words_in counts) (add-one k) in
-    (rw (e, g) (omega arith), rw g (omega arith))
+pool_within counts at k = omega arith
 
-pub pool_filled : (s : List ℕ) → Bytes s → (at : ℕ) (counts : List ℕ) (k : ℕ) (next : Next) (table after out : List ℕ) (from words end : ℕ)
-    → from ≡ pool_at at counts k → words ≡ words_in counts (suc k) → from + 4 * words ≤ length s → words ≤ length table
-    → ended_given next after ≡ stored_run table 0 end (run_at (rules_from [] 0 words) s from)
-    → out ≡ take words after ++ replicate (length after - words) 0 → out ≡ table_of (pool_numbers s at counts k) table
+-- a pool's words in a part of its table that is just as long
+pub pool_read : (s : List ℕ) → Bytes s → (at : ℕ) (counts : List ℕ) (k : ℕ) (r : Result ℕ Refusal) (part after : List ℕ) (from end : ℕ)
+    → from ≡ pool_at at counts k → length part ≡ words_in counts (suc k) → from + 4 * length part ≤ length s
+    → ended_given r after ≡ stored_run part 0 end (run_at (rules_from [] 0 (length part)) s from) → after ≡ pool_numbers s at counts k
 unfolding pool_numbers
-pool_filled s b at counts k next table after out from words end p q within room e f =
-    let whole = run_whole s b words from within in
-    let vs : List ℕ = words_or (run_at (replicate words unjudged) s from) in
-    let g : ended_given next after ≡ done (record { value = sets table 0 vs; next = end })
-    = e ∙ rw (unjudged_rules words 0) (ap (stored_run table 0 end) whole) in
-    let long : length vs ≡ words = run_length _ s from vs whole ∙ length-replicate words unjudged in
-    rw (← p, ← q) (stored_cleared table after out vs words (ended_value next after _ g) long room f)
+pool_read s b at counts k r part after from end p q within e =
+    let whole = run_whole s b (length part) from within in
+    let vs : List ℕ = words_or (run_at (replicate (length part) unjudged) s from) in
+    let g : ended_given r after ≡ done (record { value = sets part 0 vs; next = end })
+    = e ∙ rw (unjudged_rules (length part) 0) (ap (stored_run part 0 end) whole) in
+    let long : length vs ≡ length part = run_length _ s from vs whole ∙ length-replicate (length part) unjudged in
+    rw (← p, ← q) (ended_value r after _ g ∙ sets_full part vs long)
 
-pub faces_filled : (s : List ℕ) (declaration : Declaration) (counts : List ℕ) (at : ℕ) (r : faces.Faces) (table after out : List ℕ) (w : ℕ)
+pub faces_filled : (s : List ℕ) (declaration : Declaration) (counts : List ℕ) (at : ℕ) (r : Result (Unit {0}) Fault) (table after out : List ℕ) (w : ℕ)
     → w ≡ words_before counts 5 → FacesFit s declaration counts at (length table)
     → faces_given r after ≡ stored_faces table 0 (faces_of declaration counts (get_or counts 0 0) (take (length s - (at + 4 * w)) (drop (at + 4 * w) s)))
-    → out ≡ take (face_words * get_or counts 0 0) after ++ replicate (length after - face_words * get_or counts 0 0) 0
+    → out ≡ take (words_in counts 0) after ++ replicate (length after - words_in counts 0) 0
     → out ≡ table_of (base_faces s declaration counts at) table
 faces_filled s declaration counts at r table after out w p fit e f =
     let g = e ∙ ap (stored_faces table 0) (faces_there s declaration counts at w p) in
     let words = base_faces s declaration counts at in
-    let long : length words ≡ face_words * get_or counts 0 0 = faces_length declaration counts (get_or counts 0 0) _ words fit.coded in
-    stored_cleared table after out words (face_words * get_or counts 0 0) (faces_stored r after table words _ g fit.coded) long fit.room f
+    let long : length words ≡ words_in counts 0 = faces_length declaration counts (get_or counts 0 0) _ words fit.coded in
+    stored_cleared table after out words (words_in counts 0) (faces_stored r after table words _ g fit.coded) long fit.room f
 
 -- ---- a continuation
-
--- a refusal, as the head and as the whole
-pub judged_refused : (s : List ℕ) (declaration : Declaration) (r : Head) (n p : ℕ) → head_given r ≡ refused n p → judged_given s declaration r ≡ refused n p
-unfolding judged_given
-judged_refused s declaration r n p e = go r.next e
-  where
-    go : (x : Next) → ended_given x r.counts ≡ refused n p → on_done (next_given x) (λ at. done (mesh_from s declaration r.counts at)) ≡ refused n p
-    go (At at) f = not_done (sym f)
-    go (Refused x) f = cc
 
 module _ (s name : List ℕ) (declaration : Declaration) (lengths : List ℕ) where
   pub base_refused : (n p : ℕ) → head_of s name declaration ≡ refused n p → base_of s name declaration lengths ≡ refused n p
@@ -237,10 +223,10 @@ head_within s name declaration h e =
 
 -- ---- what is judged fits
 
-pub contents_fit : (s : List ℕ) (declaration : Declaration) (counts : List ℕ) (at : ℕ) (lengths : List ℕ) (r : Head) → ContentsFit s declaration counts at r
-    → has_room lengths counts ≡ true → JudgedFits s declaration lengths r
-contents_fit s declaration counts at lengths r fit room x f =
-    let k = fit x f in
+pub contents_fit : (s : List ℕ) (declaration : Declaration) (counts : List ℕ) (at : ℕ) (lengths : List ℕ) (r : Result (Ended (List ℕ)) Refusal)
+    → ContentsFit s declaration counts at r → has_room lengths counts ≡ true → JudgedFits s declaration lengths r
+contents_fit s declaration counts at lengths r fit room head f =
+    let k = fit head f in
     let at_room = room_at lengths counts room in
     rw (k.0, k.1) (record { within = k.2; room = at_room 0 (omega arith); coded = k.3 }, at_room)
 
@@ -252,22 +238,14 @@ before_le counts k (suc m) h =
     ⊎_elim (λ (e : k ≡ suc m). rw e (omega arith)) (λ (l : k < suc m). omega (arith, before_le counts k m (omega arith))) (eq-or-lt_of_le h)
 
 -- what filling the table of a pool asks
-pub pool_fits : (s : List ℕ) (declaration : Declaration) (t : Tables) (r : Head) → JudgedFits s declaration (lengths_of t) r → (at : ℕ) → r.next ≡ At at → (k : ℕ) → k < 5
-    → (k < 5) × (pool_at at r.counts (suc k) ≤ length s) × (words_in r.counts (suc k) ≤ get_or (lengths_of t) (suc k) 0)
-pool_fits s declaration t r fits at e k h =
-    let f = fits at e in
-    (h, omega (arith, f.0.within, before_le r.counts (suc k) 5 (omega arith)), f.1 (suc k) (omega arith))
+pub pool_fits : (s : List ℕ) (declaration : Declaration) (t : Tables) (r : Result (Ended (List ℕ)) Refusal) → JudgedFits s declaration (lengths_of t) r
+    → (head : Ended (List ℕ)) → r ≡ Ok head → (k : ℕ) → k < 5
+    → (k < 5) × (pool_at head.next head.value (suc k) ≤ length s) × (words_in head.value (suc k) ≤ get_or (lengths_of t) (suc k) 0)
+pool_fits s declaration t r fits head e k h =
+    let f = fits head e in
+    (h, omega (arith, f.0.within, before_le head.value (suc k) 5 (omega arith)), f.1 (suc k) (omega arith))
 
 -- ---- answers and tables
-
-module _ (s : List ℕ) (declaration : Declaration) (r : Head) {j : Judged Mesh} (e : judged_given s declaration r ≡ j) where
-  pub judged_done : {at : ℕ} → r.next ≡ At at → j ≡ done (mesh_from s declaration r.counts at)
-  unfolding judged_given
-  judged_done f = sym e ∙ ap (λ (n : Next). on_done (next_given n) λ at. done (mesh_from s declaration r.counts at)) f
-
-  pub judged_failed : {x : Refusal} → r.next ≡ Refused x → j ≡ refused x.number x.place
-  unfolding judged_given
-  judged_failed f = sym e ∙ ap (λ (n : Next). on_done (next_given n) λ at. done (mesh_from s declaration r.counts at)) f
 
 -- a refusal is answered, and leaves the tables
 pub answered_refused : (j : InPart Mesh) (p : Part) (n place : ℕ) (t : Tables) → j ≡ refused_in p n place
@@ -275,35 +253,63 @@ pub answered_refused : (j : InPart Mesh) (p : Part) (n place : ℕ) (t : Tables)
 unfolding tables_after
 answered_refused j p n place t e = (rw e, rw e)
 
+ok-not-err : {A E : Type 0} {a : A} {e : E} → ◌≡◌ {A = Result A E} (Ok a) (Err e) → ⊥
+ok-not-err h = cc
+
+-- an answer on a part, by its two cases
+module _ {A : Type 0} (p : Part) (r : Result A Refusal) where
+  pub placed_refused : (f : MeshRefusal) → Err f ≡ placed p r → (r ≡ Err f.refusal) × (f.part ≡ p)
+  placed_refused f e = go r e
+    where
+      go : (x : Result A Refusal) → Err f ≡ placed p x → (x ≡ Err f.refusal) × (f.part ≡ p)
+      go (Ok a) h = absurd (ok-not-err (sym h))
+      go (Err x) h = let same : f ≡ record { part = p; refusal = x } = cc in (rw same, rw same)
+
+  pub placed_done : (a : A) → Ok a ≡ placed p r → r ≡ Ok a
+  placed_done a e = go r e
+    where
+      go : (x : Result A Refusal) → Ok a ≡ placed p x → x ≡ Ok a
+      go (Ok b) h = let same : b ≡ a = cc in rw same
+      go (Err x) h = absurd (ok-not-err h)
+
+-- a part of a good size
+pub sized_small : (s : List ℕ) → sized s ≡ done tt → length s ≤ largest_file
+sized_small s e = ltb-false largest_file (length s) (passed (ltb largest_file (length s)) over_limit 0 _ tt e).0
+
+module _ (d s lengths : List ℕ) where
+  pub mesh_large : (n p : ℕ) → sized d ≡ refused n p → mesh_of d s lengths ≡ refused_in part.TheVariants.Declaration n p
+  unfolding mesh_of
+  mesh_large n p e = rw e
+
+  module _ (small : sized d ≡ done tt) where
+    pub base_large : (n p : ℕ) → sized s ≡ refused n p → mesh_of d s lengths ≡ refused_in part.TheVariants.Continuation n p
+    unfolding mesh_of
+    base_large n p e = rw (small, e)
+
+    module _ (short : sized s ≡ done tt) where
+      pub mesh_undeclared : (n p : ℕ) → declaration_of d ≡ refused n p → mesh_of d s lengths ≡ refused_in part.TheVariants.Declaration n p
+      unfolding mesh_of
+      mesh_undeclared n p e = rw (small, short, e)
+
+      module _ (declaration : Declaration) (e : declaration_of d ≡ done declaration) where
+        pub mesh_refused : (n p : ℕ) → base_of s (mesh_name d) declaration lengths ≡ refused n p
+            → mesh_of d s lengths ≡ refused_in part.TheVariants.Continuation n p
+        unfolding mesh_of
+        mesh_refused n p f = rw (small, short, e, f)
+
+        pub mesh_done : (m : Mesh) → base_of s (mesh_name d) declaration lengths ≡ done m → mesh_of d s lengths ≡ read m
+        unfolding mesh_of
+        mesh_done m f = rw (small, short, e, f)
+
 -- a mesh that was judged is answered, and stands in the tables
-pub answered_read : (s : List ℕ) (declaration : Declaration) (counts : List ℕ) (at : ℕ) (j : Judged Mesh) (t u : Tables)
-    → j ≡ done (mesh_from s declaration counts at)
+pub answered_read : (s : List ℕ) (declaration : Declaration) (counts : List ℕ) (at : ℕ) (j : InPart Mesh) (t u : Tables)
+    → j ≡ read (mesh_from s declaration counts at)
     → u.faces ≡ table_of (base_faces s declaration counts at) t.faces
     → u.positions ≡ table_of (pool_numbers s at counts 0) t.positions
     → u.normals ≡ table_of (pool_numbers s at counts 1) t.normals
     → u.diffuse ≡ table_of (pool_numbers s at counts 2) t.diffuse
     → u.specular ≡ table_of (pool_numbers s at counts 3) t.specular
     → u.texture ≡ table_of (pool_numbers s at counts 4) t.texture
-    → (read (counts_from counts declaration.shading_count) ≡ answered (in_continuation j)) × (u ≡ tables_after (in_continuation j) t)
+    → (read (counts_from counts declaration.shading_count) ≡ answered j) × (u ≡ tables_after j t)
 unfolding tables_after mesh_from
 answered_read s declaration counts at j t u e f p n d sp x = (rw e, rw (e, ← f, ← p, ← n, ← d, ← sp, ← x))
-
-module _ (d s lengths : List ℕ) where
-  pub mesh_large : largest_file < length d → mesh_of d s lengths ≡ refused_in part.TheVariants.Declaration over_limit 0
-  unfolding mesh_of
-  mesh_large h = rw (lt-ltb _ _ h)
-
-  module _ (small : length d ≤ largest_file) where
-    pub base_large : largest_file < length s → mesh_of d s lengths ≡ refused_in part.TheVariants.Continuation over_limit 0
-    unfolding mesh_of
-    base_large h = rw (le-ltb _ _ small, lt-ltb _ _ h)
-
-    module _ (short : length s ≤ largest_file) where
-      pub mesh_undeclared : (n p : ℕ) → declaration_of d ≡ refused n p → mesh_of d s lengths ≡ refused_in part.TheVariants.Declaration n p
-      unfolding mesh_of
-      mesh_undeclared n p e = rw (le-ltb _ _ small, le-ltb _ _ short, e)
-
-      pub mesh_declared : (declaration : Declaration) → declaration_of d ≡ done declaration
-          → mesh_of d s lengths ≡ in_continuation (base_of s (mesh_name d) declaration lengths)
-      unfolding mesh_of
-      mesh_declared declaration e = rw (le-ltb _ _ small, le-ltb _ _ short, e)

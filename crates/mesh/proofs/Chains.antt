@@ -1,34 +1,25 @@
 -- Laws of judging one thing after the other, and of lists that are stored.
+use Rattle.std.specs.Prelude.{Result, Ok, Err}
 use Prim.Native.Nat.{ℕ, zero, suc, ◌+◌, ◌-◌, ◌≤◌}
-use mathlib.Core.Path.{◌≡◌, ◌∙◌, ap, refl, sym}
+use mathlib.Core.Path.{◌≡◌, ◌∙◌, ap, refl}
 use mathlib.Core.List.{List, ◌++◌, append-nil}
 use native.Mathlib.Omega.{arith}
 use lib.ListN.{drop, length, length-drop, length-replicate, replicate, take}
-use lib.Seq.{length-sets, sets, sets-eq, take_all, take_at}
+use lib.Seq.{drop-length, length-sets, sets, sets-eq, take_all, take_at}
 use Rattle.fields.specs.Judged.{Judged, done, refused, on_done}
 use Rattle.fields.proofs.Judging.{not_done, same_done}
-use Rattle.fields.specs.declared.numbers.Refusal.{Refusal}
-use Rattle.mesh.specs.Run.{Ended, filled}
+use Rattle.fields.specs.declared.refusal.Refusal.{Refusal}
+use Rattle.mesh.specs.Run.{filled}
 use Rattle.mesh.specs.Inside.{ended_given}
-use Rattle.mesh.specs.declared.run.Next.{Next}
-use Rattle.mesh.specs.declared.run.Next.TheVariants.{At, Refused}
+use Rattle.mesh.specs.declared.run.Ended.{Ended}
 
 -- what follows from a value that was only handed on
 pub on_mapped : {A B C : Type 0} (j : Judged A) (f : A → B) (k : B → Judged C) → on_done (on_done j (λ a. done (f a))) k ≡ on_done j (λ a. k (f a))
 on_mapped (done a) f k = refl
 on_mapped (refused n p) f k = refl
 
--- an answer with its end: what was judged, by its two cases
-pub ended_at : {A : Type 0} (next : Next) (value : A) {j : Judged (Ended A)} {at : ℕ} → ended_given next value ≡ j → next ≡ At at
-    → j ≡ done (record { value = value; next = at })
-ended_at next value e f = sym e ∙ ap (λ (n : Next). ended_given n value) f
-
-pub ended_refused : {A : Type 0} (next : Next) (value : A) {j : Judged (Ended A)} {e : Refusal} → ended_given next value ≡ j → next ≡ Refused e
-    → j ≡ refused e.number e.place
-ended_refused next value e f = sym e ∙ ap (λ (n : Next). ended_given n value) f
-
 -- the end of a list of one value
-drop_replicate : {A : Type 0} (n k : ℕ) (a : A) → drop k (replicate n a) ≡ replicate (n - k) a
+pub drop_replicate : {A : Type 0} (n k : ℕ) (a : A) → drop k (replicate n a) ≡ replicate (n - k) a
 drop_replicate n zero a = let e : n - 0 ≡ n = omega arith in rw e
 drop_replicate zero (suc k) a = let e : 0 - suc k ≡ 0 = omega arith in rw e
 drop_replicate (suc n) (suc k) a = let e : suc n - suc k ≡ n - k = omega arith in rw e (drop_replicate n k a)
@@ -40,11 +31,11 @@ sets_filled {A} room empty l h =
     let none : 0 + length l ≡ length l = omega arith in
     sets-eq l (replicate room empty) 0 fits ∙ ap (λ (m : List A). l ++ m) (rw none (drop_replicate room (length l) empty))
 
--- a list that fills the room
-pub sets_full : {A : Type 0} (room : ℕ) (empty : A) (l : List A) → length l ≡ room → sets (replicate room empty) 0 l ≡ l
-sets_full room empty l h =
-    let none : room - length l ≡ 0 = omega arith in
-    sets_filled room empty l (omega arith) ∙ rw none (append-nil l)
+-- a list that fills a table
+pub sets_full : {A : Type 0} (t l : List A) → length l ≡ length t → sets t 0 l ≡ l
+sets_full t l h =
+    let none : 0 + length l ≡ length t = omega arith in
+    sets-eq l t 0 (omega arith) ∙ rw (none, drop-length t) (append-nil l)
 
 -- a list stored in a table, and zeros after it
 pub stored_cleared : (t after out vs : List ℕ) (n : ℕ) → after ≡ sets t 0 vs → length vs ≡ n → n ≤ length t
@@ -59,6 +50,6 @@ pub to_end : (s : List ℕ) (a : ℕ) → take (length s - a) (drop a s) ≡ dro
 to_end s a = take_all (length s - a) (drop a s) (omega (arith, length-drop a s))
 
 -- the value of an answer that is done
-pub ended_value : {A : Type 0} (next : Next) (value : A) (r : Ended A) → ended_given next value ≡ done r → value ≡ r.value
-ended_value {A} (At at) value r e = ap (λ (x : Ended A). x.value) (same_done e)
-ended_value (Refused e) value r f = not_done f
+pub ended_value : {A : Type 0} (r : Result ℕ Refusal) (value : A) (e : Ended A) → ended_given r value ≡ done e → value ≡ e.value
+ended_value {A} (Ok next) value e f = ap (λ (x : Ended A). x.value) (same_done f)
+ended_value (Err x) value e f = not_done f

@@ -1,31 +1,28 @@
 -- The parts of a declaration, one after the other.
 use Prim.Native.Nat.{ℕ, zero, suc, ◌+◌, ◌-◌, ◌*◌, ◌≤◌, ◌<◌}
 use mathlib.Core.Path.{◌≡◌, ◌∙◌, ap, refl, sym}
-use mathlib.Core.List.{List, [], ◌∷◌}
+use mathlib.Core.List.{List, [], ◌∷◌, ◌++◌}
 use native.Mathlib.Numerals.{add-one}
 use native.Mathlib.Omega.{arith}
 use borrow.Author.Tests.{le-ltb, lt-ltb}
 use lib.Dec.{ltb}
-use lib.ListN.{get_or, length, length-replicate, replicate, set}
+use lib.ListN.{drop, get_or, length, length-replicate, replicate, set}
 use lib.Seq.{sets}
 use Rattle.fields.specs.Field.{field_at}
-use Rattle.fields.specs.Judged.{Judged, done, refused, on_done}
+use Rattle.fields.specs.Judged.{done, refused}
 use Rattle.fields.specs.Limits.{largest_file}
 use Rattle.fields.specs.Name.{name_at}
 use Rattle.fields.specs.Numbers.{bytes_left, over_limit}
-use Rattle.fields.specs.declared.numbers.Refusal.{Refusal}
 use Rattle.fields.proofs.Judging.{passed, refusal_before, value_before}
-use Rattle.mesh.specs.Run.{Ended, filled, run_at, unjudged}
+use Rattle.mesh.specs.Run.{filled, run_at, unjudged}
 use Rattle.mesh.specs.Shading.{layer_limit, no_shading, no_shadings, shading_at, shading_limit, shading_rules, shadings_at}
 use Rattle.mesh.specs.Declaration.{closing_rules, declaration_of, declaration_with, opening_rules}
-use Rattle.mesh.specs.Inside.{closing_at, declared_given, ended_given, name_end, next_given, rules_from, stored_run, stored_shadings}
+use Rattle.mesh.specs.Inside.{closing_at, name_end, stored_shadings}
 use Rattle.mesh.specs.declared.declaration.Declaration.{Declaration}
-use Rattle.mesh.specs.declared.declaration.DeclarationJudged.{DeclarationJudged}
-use Rattle.mesh.specs.declared.run.Next.{Next}
-use Rattle.mesh.specs.declared.run.Next.TheVariants.{At, Refused}
+use Rattle.mesh.specs.declared.run.Ended.{Ended}
 use Rattle.mesh.specs.declared.shading.Shading.{Shading}
-use Rattle.mesh.proofs.Chains.{ended_at, ended_refused, on_mapped, sets_filled}
-use Rattle.mesh.proofs.Runs.{run_failed, run_length, run_limited, run_stored, unjudged_rules}
+use Rattle.mesh.proofs.Chains.{drop_replicate, on_mapped, sets_filled}
+use Rattle.mesh.proofs.Runs.{run_length, run_limited}
 
 -- ---- the fields after the shadings
 
@@ -53,49 +50,31 @@ pub shading_refused : (s : List ℕ) (at n p : ℕ) → run_at shading_rules s a
 unfolding shading_at
 shading_refused s at n p e = rw e
 
--- attributes, layer count and dimensions are read
-module _ (s : List ℕ) (at : ℕ) (head values : List ℕ) (e : run_at shading_rules s at ≡ done head)
-    (f : run_at (replicate (get_or head 1 0) unjudged) s (at + 8) ≡ done values) (last : ℕ) (l : last ≡ at + 8 + 4 * get_or head 1 0) where
-  shading_cut : (n p : ℕ) → field_at 4 s last ≡ refused n p → shading_at s at ≡ refused n p
+-- after attributes and layer count, the dimensions, as many as layers
+module _ (s : List ℕ) (at : ℕ) (head : List ℕ) (e : run_at shading_rules s at ≡ done head) where
+  pub dimensions_refused : (n p : ℕ) → run_at (replicate (get_or head 1 0) unjudged) s (at + 8) ≡ refused n p → shading_at s at ≡ refused n p
   unfolding shading_at
-  shading_cut n p o = rw (e, f, ← l, o)
+  dimensions_refused n p f = rw (e, f)
 
-  shading_whole : (dimensions : List ℕ) → dimensions ≡ filled layer_limit 0 values → (original : ℕ) → field_at 4 s last ≡ done original
-      → shading_at s at ≡ done (record {
-        value = record { attributes = get_or head 0 0; layer_count = get_or head 1 0; dimensions = dimensions; original_id = original };
-        next = last + 4;
-      })
-  unfolding shading_at
-  shading_whole dimensions room original o = rw (e, f, ← l, o, room)
-
--- after attributes and layer count, which end at x, the dimensions
-module _ (s : List ℕ) (at : ℕ) (head : List ℕ) (x : ℕ) (next : Next) (dimensions : List ℕ) (e : run_at shading_rules s at ≡ done head) (q : x ≡ at + 8)
-    (g : ended_given next dimensions
-    ≡ stored_run (replicate layer_limit 0) 0 (x + 4 * get_or head 1 0) (run_at (rules_from [] 0 (get_or head 1 0)) s x)) where
-  run : ended_given next dimensions
-      ≡ stored_run (replicate layer_limit 0) 0 (at + 8 + 4 * get_or head 1 0) (run_at (replicate (get_or head 1 0) unjudged) s (at + 8))
-  run = rw (unjudged_rules (get_or head 1 0) 0, q) at g
-
-  pub dimensions_refused : {r : Refusal} → next ≡ Refused r → shading_at s at ≡ refused r.number r.place
-  unfolding shading_at
-  dimensions_refused f = rw (e, run_failed (replicate (get_or head 1 0) unjudged) s (at + 8) next dimensions _ _ run f)
-
-  module _ (last : ℕ) (f : next ≡ At last) where
+  module _ (values : List ℕ) (f : run_at (replicate (get_or head 1 0) unjudged) s (at + 8) ≡ done values) (last : ℕ) (l : last ≡ at + 8 + 4 * get_or head 1 0) where
     pub original_refused : (n p : ℕ) → field_at 4 s last ≡ refused n p → shading_at s at ≡ refused n p
-    original_refused n p o =
-        let d = run_stored (replicate (get_or head 1 0) unjudged) s (at + 8) next dimensions _ _ run f in
-        shading_cut s at head d.0 e d.1 last d.3 n p o
+    unfolding shading_at
+    original_refused n p o = rw (e, f, ← l, o)
 
     pub shading_done : (original : ℕ) → field_at 4 s last ≡ done original
         → shading_at s at ≡ done (record {
-          value = record { attributes = get_or head 0 0; layer_count = get_or head 1 0; dimensions = dimensions; original_id = original };
+          value = record {
+            attributes = get_or head 0 0;
+            layer_count = get_or head 1 0;
+            dimensions = values ++ drop (get_or head 1 0) (replicate layer_limit 0);
+            original_id = original;
+          };
           next = last + 4;
         })
+    unfolding shading_at
     shading_done original o =
-        let d = run_stored (replicate (get_or head 1 0) unjudged) s (at + 8) next dimensions _ _ run f in
-        let few : length d.0 ≤ layer_limit
-        = omega (arith, run_length _ _ _ _ d.1, length-replicate (get_or head 1 0) unjudged, layers_few s at head e) in
-        shading_whole s at head d.0 e d.1 last d.3 dimensions (d.2 ∙ sets_filled layer_limit 0 d.0 few) original o
+        let long : length values ≡ get_or head 1 0 = run_length _ _ _ _ f ∙ length-replicate (get_or head 1 0) unjudged in
+        rw (e, f, ← l, o, long, drop_replicate {A = ℕ} layer_limit (get_or head 1 0) 0)
 
 -- ---- shadings one after the other
 
@@ -177,18 +156,17 @@ pub count_few : (s : List ℕ) (at : ℕ) (head : List ℕ) → run_at opening_r
 count_few s at head e = run_limited opening_rules s at head e 8
 
 -- what a caller learns of shadings that were read, or refused
-module _ (n : ℕ) (s : List ℕ) (at : ℕ) (next : Next) (table : List Shading) (e : ended_given next table ≡ stored_shadings no_shadings 0 (shadings_at n s at)) where
-  pub shadings_failed : {r : Refusal} → next ≡ Refused r → shadings_at n s at ≡ refused r.number r.place
-  shadings_failed {r} f = refusal_before (shadings_at n s at) _ r.number r.place (ended_refused next table e f)
+module _ (n : ℕ) (s : List ℕ) (at : ℕ) where
+  pub shadings_failed : (m p : ℕ) → refused m p ≡ stored_shadings no_shadings 0 (shadings_at n s at) → shadings_at n s at ≡ refused m p
+  shadings_failed m p e = refusal_before (shadings_at n s at) _ m p (sym e)
 
-  pub shadings_told : {x : ℕ} → next ≡ At x → n ≤ shading_limit
-      → (list : List Shading) × (shadings_at n s at ≡ done (record { value = list; next = x })) × (table ≡ filled shading_limit no_shading list)
+  pub shadings_told : (r : Ended (List Shading)) → done r ≡ stored_shadings no_shadings 0 (shadings_at n s at) → n ≤ shading_limit
+      → (list : List Shading) × (shadings_at n s at ≡ done (record { value = list; next = r.next })) × (r.value ≡ filled shading_limit no_shading list)
   unfolding no_shadings
-  shadings_told {x} f few =
-      let r : Ended (List Shading) = record { value = table; next = x } in
-      let g = value_before (shadings_at n s at) _ r (ended_at next table e f) in
+  shadings_told r e few =
+      let g = value_before (shadings_at n s at) _ r (sym e) in
       let same : ◌≡◌ {A = Ended (List Shading)} (record { value = sets no_shadings 0 g.0.value; next = g.0.next }) r = cc in
-      let end : g.0.next ≡ x = ap (λ (y : Ended (List Shading)). y.next) same in
+      let end : g.0.next ≡ r.next = ap (λ (y : Ended (List Shading)). y.next) same in
       let long : length g.0.value ≡ n = shadings_length n s at g.0 g.1 in (
         g.0.value,
         g.1 ∙ ap (λ (y : ℕ). done (record { value = g.0.value; next = y })) end,
@@ -203,14 +181,6 @@ pub declaration_joined : (s : List ℕ) → length s ≤ largest_file → (size 
 declaration_joined s small size e head f list at next a g end shadings p q =
     let z : end - 2 ≡ size = omega arith in
     rw (z, q) (sym (described s small size e head f list next (rw a at g)))
-
--- a declaration that was judged
-module _ (r : DeclarationJudged) {j : Judged Declaration} (e : declared_given r ≡ j) where
-  pub declared_done : {x : ℕ} → r.next ≡ At x → j ≡ done r.declaration
-  declared_done f = sym e ∙ ap (λ (n : Next). on_done (next_given n) λ _. done r.declaration) f
-
-  pub declared_refused : {x : Refusal} → r.next ≡ Refused x → j ≡ refused x.number x.place
-  declared_refused f = sym e ∙ ap (λ (n : Next). on_done (next_given n) λ _. done r.declaration) f
 
 -- a declaration that is read has not too many shadings
 pub shadings_few : (s : List ℕ) (declaration : Declaration) → declaration_of s ≡ done declaration → declaration.shading_count ≤ shading_limit

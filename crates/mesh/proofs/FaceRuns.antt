@@ -1,4 +1,5 @@
 -- Faces one after the other: a shading id, its corners, and the words as they are stored.
+use Rattle.std.specs.Prelude.{Result, Ok, Err}
 use Prim.Native.Nat.{ℕ, zero, suc, ◌+◌, ◌-◌, ◌*◌, ◌%◌, ◌≤◌, ◌<◌}
 use mathlib.Core.Path.{◌≡◌, ◌∙◌, ap, subst, sym}
 use mathlib.Core.List.{List, [], ◌∷◌, ◌++◌}
@@ -21,11 +22,10 @@ use Rattle.coder.specs.declared.interval.Coder.{Coder}
 use Rattle.coder_theorems.specs.Runs.{Histograms, call_read}
 use Rattle.mesh.specs.Corners.{corner_fields, face_words, form_of, shading_context}
 use Rattle.mesh.specs.Faces.{Coded, coded_number, corners_from, face_from, faces_from, faces_of, field_from, shading_from}
-use Rattle.mesh.specs.Inside.{corners_given, faces_given, stored_faces, stored_words}
+use Rattle.mesh.specs.Inside.{faces_given, stored_faces, stored_words}
 use Rattle.mesh.specs.declared.declaration.Declaration.{Declaration}
 use Rattle.mesh.specs.declared.faces.CornerForm.{CornerForm}
-use Rattle.mesh.specs.declared.faces.Corners as corners
-use Rattle.mesh.specs.declared.faces.Faces as faces
+use Rattle.fields.specs.declared.refusal.Fault.{Fault}
 use Rattle.mesh.proofs.Chains.{on_mapped}
 
 -- ---- corners
@@ -42,17 +42,17 @@ corners_length form (suc left) n d s r e =
     ap (λ (c : Coded (List ℕ)). length c.value) same ∙ ap suc (corners_length form left (suc n) d f.0.state g.0 g.1)
 
 -- what a caller learns of corners that were read, or refused
-module _ (r : corners.Corners) (after table : List ℕ) (at : ℕ) (j : Judged (Coded (List ℕ))) (e : corners_given r after ≡ stored_words table at j) where
-  pub corners_told : (s : Coder) → r ≡ corners.TheVariants.Read s → (w : List ℕ) × (j ≡ done (record { value = w; state = s })) × (after ≡ sets table at w)
-  corners_told s f =
-      let c : Coded (List ℕ) = record { value = after; state = s } in
-      let g = value_before j _ c (sym e ∙ ap (λ (x : corners.Corners). corners_given x after) f) in
+module _ (table : List ℕ) (at : ℕ) (j : Judged (Coded (List ℕ))) where
+  pub corners_told : (c : Coded (List ℕ)) → done c ≡ stored_words table at j
+      → (w : List ℕ) × (j ≡ done (record { value = w; state = c.state })) × (c.value ≡ sets table at w)
+  corners_told c e =
+      let g = value_before j _ c (sym e) in
       let same : ◌≡◌ {A = Coded (List ℕ)} (record { value = sets table at g.0.value; state = g.0.state }) c = cc in
-      let state : g.0.state ≡ s = ap (λ (x : Coded (List ℕ)). x.state) same in
+      let state : g.0.state ≡ c.state = ap (λ (x : Coded (List ℕ)). x.state) same in
       (g.0.value, g.1 ∙ ap (λ (x : Coder). done (record { value = g.0.value; state = x })) state, sym (ap (λ (x : Coded (List ℕ)). x.value) same))
 
-  pub corners_failed : (n : ℕ) → r ≡ corners.TheVariants.Refused n → j ≡ refused n 0
-  corners_failed n f = refusal_before j _ n 0 (sym e ∙ ap (λ (x : corners.Corners). corners_given x after) f)
+  pub corners_failed : (n p : ℕ) → refused n p ≡ stored_words table at j → j ≡ refused n p
+  corners_failed n p e = refusal_before j _ n p (sym e)
 
 -- ---- shadings
 
@@ -154,18 +154,18 @@ pub faces_length : (declaration : Declaration) (counts : List ℕ) (n : ℕ) (d 
 unfolding faces_of
 faces_length declaration counts n d words e = faces_long declaration counts n _ d _ words e
 
-module _ (r : faces.Faces) (after table : List ℕ) (j : Judged (List ℕ)) (e : faces_given r after ≡ stored_faces table 0 j) where
-  pub faces_failed : {n : ℕ} → r ≡ faces.TheVariants.Refused n → j ≡ refused n 0
-  faces_failed {n} f = refusal_before j _ n 0 (sym e ∙ ap (λ (x : faces.Faces). faces_given x after) f)
+module _ (table : List ℕ) (j : Judged (List ℕ)) where
+  pub faces_failed : (n p : ℕ) → refused n p ≡ stored_faces table 0 j → j ≡ refused n p
+  faces_failed n p e = refusal_before j _ n p (sym e)
 
-  pub faces_told : r ≡ faces.TheVariants.Read → (words : List ℕ) × (j ≡ done words)
-  faces_told f = let g = value_before j _ after (sym e ∙ ap (λ (x : faces.Faces). faces_given x after) f) in (g.0, g.1)
+  pub faces_told : (after : List ℕ) → done after ≡ stored_faces table 0 j → (words : List ℕ) × (j ≡ done words)
+  faces_told after e = let g = value_before j _ after (sym e) in (g.0, g.1)
 
 -- faces that can be read stand in the table
-pub faces_stored : (r : faces.Faces) (after table words : List ℕ) (j : Judged (List ℕ)) → faces_given r after ≡ stored_faces table 0 j → j ≡ done words
-    → after ≡ sets table 0 words
+pub faces_stored : (r : Result (Unit {0}) Fault) (after table words : List ℕ) (j : Judged (List ℕ)) → faces_given r after ≡ stored_faces table 0 j
+    → j ≡ done words → after ≡ sets table 0 words
 faces_stored r after table words j e f = go r (e ∙ ap (stored_faces table 0) f)
   where
-    go : (x : faces.Faces) → faces_given x after ≡ done (sets table 0 words) → after ≡ sets table 0 words
-    go faces.TheVariants.Read g = cc
-    go (faces.TheVariants.Refused n) g = not_done g
+    go : (x : Result (Unit {0}) Fault) → faces_given x after ≡ done (sets table 0 words) → after ≡ sets table 0 words
+    go (Ok none) g = cc
+    go (Err fault) g = not_done g

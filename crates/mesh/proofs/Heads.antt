@@ -1,9 +1,11 @@
 -- The head of a continuation: its name and its fields.
-use Prim.Native.Nat.{ℕ, ◌+◌, ◌≤◌}
+use Prim.Native.Nat.{ℕ, ◌+◌, ◌≤◌, ◌<◌, min}
+use native.Mathlib.Decide.{dec_lt}
+use native.Mathlib.Omega.{arith}
 use mathlib.Core.Path.{◌≡◌, refl}
-use mathlib.Core.Bool.{true, false}
+use mathlib.Core.Bool.{true, false, not}
 use mathlib.Core.List.{List}
-use borrow.Author.Tests.{le-ltb}
+use borrow.Author.Tests.{le-ltb, lt-ltb}
 use lib.ListN.{length}
 use Rattle.fields.specs.Judged.{done, refused}
 use Rattle.fields.specs.Limits.{largest_file}
@@ -11,7 +13,7 @@ use Rattle.fields.specs.Name.{name_at, name_part, same}
 use Rattle.fields.specs.Numbers.{bad_name}
 use Rattle.mesh.specs.Run.{run_at, values_of}
 use Rattle.mesh.specs.Declaration.{mesh_name}
-use Rattle.mesh.specs.Base.{base_rules, head_of}
+use Rattle.mesh.specs.Base.{base_rules, head_of, smaller}
 use Rattle.mesh.specs.declared.declaration.Declaration.{Declaration}
 
 module _ (s name : List ℕ) (declaration : Declaration) where
@@ -20,11 +22,11 @@ module _ (s name : List ℕ) (declaration : Declaration) where
   head_unnamed n p e = rw e
 
   module _ (size : ℕ) (e : name_at s 0 ≡ done size) where
-    pub head_unlike : same (name_part s 0) name ≡ false → head_of s name declaration ≡ refused bad_name 0
+    pub head_unlike : not (same (name_part s 0) name) ≡ true → head_of s name declaration ≡ refused bad_name 0
     unfolding head_of
     head_unlike f = rw (e, f)
 
-    module _ (alike : same (name_part s 0) name ≡ true) where
+    module _ (alike : not (same (name_part s 0) name) ≡ false) where
       pub head_refused : (n p : ℕ) → run_at (base_rules declaration) s (size + 2) ≡ refused n p → head_of s name declaration ≡ refused n p
       unfolding head_of
       head_refused n p f = rw (e, alike, f)
@@ -43,3 +45,11 @@ named s h = rw (le-ltb _ _ h)
 pub rules_length : (declaration : Declaration) → length (base_rules declaration) ≡ 7
 unfolding base_rules
 rules_length declaration = refl
+
+-- the smaller of two numbers, by the test
+pub smaller_min : (a b : ℕ) → min a b ≡ smaller a b
+smaller_min a b = go (dec_lt a b)
+  where
+    go : Dec (a < b) → min a b ≡ smaller a b
+    go (yes h) = rw (lt-ltb a b h) (omega arith)
+    go (no h) = rw (le-ltb a b (omega arith)) (omega arith)

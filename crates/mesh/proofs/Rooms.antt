@@ -1,16 +1,15 @@
--- The caller's tables: their words, the test for room, and zeros to a table's end.
-use Prim.Native.Nat.{ℕ, zero, suc, ◌+◌, ◌-◌, ◌≤◌, ◌<◌}
-use mathlib.Core.Path.{◌≡◌, sym}
+-- The caller's tables: their words, and the test for room.
+use Prim.Native.Nat.{ℕ, zero, suc, ◌+◌, ◌≤◌, ◌<◌}
+use mathlib.Core.Path.{◌≡◌}
 use mathlib.Core.Bool.{true}
-use mathlib.Core.List.{List, ◌∷◌, ◌++◌, append_assoc, append-nil}
+use mathlib.Core.List.{List}
 use native.Mathlib.Nat.{mul-le-mul}
 use native.Mathlib.Numerals.{add-one}
 use native.Mathlib.Omega.{arith}
 use borrow.Author.Tests.{leb-true}
 use mir.Val.{Fits}
 use mir.Syntax.{w32}
-use lib.ListN.{get_or, length, length-set, replicate, set, take}
-use lib.Seq.{take_all, take-suc-set}
+use lib.ListN.{get_or}
 use Rattle.fields.proofs.All.{all_at}
 use Rattle.mesh.specs.Base.{has_room, table_count, table_fits, widths, words_in}
 use Rattle.mesh.specs.Inside.{words_before}
@@ -41,21 +40,3 @@ before_more counts i sum words e f = rw (add-one, words_before, e, f, add-one)
 
 pub room_at : (lengths counts : List ℕ) → has_room lengths counts ≡ true → (i : ℕ) → i < table_count → words_in counts i ≤ get_or lengths i 0
 room_at lengths counts e i h = leb-true _ _ (all_at (table_fits lengths counts) table_count i e h)
-
--- ---- zeros to the end
-
--- what a table is once it is cleared from an index on
-abbrev pub cleared : List ℕ → ℕ → List ℕ
-cleared t i = take i t ++ replicate (length t - i) 0
-
-pub clear_more : (t : List ℕ) (i : ℕ) → i < length t → cleared t i ≡ cleared (set t i 0) (i + 1)
-clear_more t i h =
-    let k : length t - i ≡ suc (length t - suc i) = omega arith in
-    let e : take (suc i) (set t i 0) ++ replicate (length t - suc i) 0 ≡ take i t ++ (0 ∷ replicate (length t - suc i) 0)
-    = rw (take-suc-set t i 0 h, append_assoc) in
-    rw (k, add-one, length-set t i 0) (sym e)
-
-pub clear_none : (t : List ℕ) (i : ℕ) → length t ≤ i → cleared t i ≡ t
-clear_none t i h =
-    let k : length t - i ≡ 0 = omega arith in
-    rw (k, take_all i t h) (append-nil t)

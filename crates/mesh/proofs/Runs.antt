@@ -4,41 +4,39 @@ use mathlib.Core.Path.{◌≡◌, ◌∙◌, ap, refl, sym}
 use mathlib.Core.List.{List, [], ◌∷◌}
 use native.Mathlib.Numerals.{add-one}
 use native.Mathlib.Omega.{arith}
-use borrow.Author.Tests.{le-ltb, ltb-false}
+use borrow.Author.Tests.{ltb-false}
 use lib.Dec.{ltb}
-use lib.ListN.{get_or, length, replicate, set}
+use lib.ListN.{get_or, length, length-replicate, replicate, set}
 use lib.Seq.{sets}
 use Rattle.fields.specs.Field.{field_at}
 use Rattle.fields.specs.Judged.{done, refused}
 use Rattle.fields.specs.Numbers.{out_of_order, over_limit}
-use Rattle.fields.specs.declared.numbers.Refusal.{Refusal}
 use Rattle.fields.proofs.Judging.{field_within, passed, refusal_before, value_before}
-use Rattle.mesh.specs.Run.{Ended, ruled_at, run_at, unjudged}
-use Rattle.mesh.specs.Inside.{ended_given, rule_at, rules_from, stored_run}
-use Rattle.mesh.specs.declared.run.Next.{Next}
-use Rattle.mesh.specs.declared.run.Next.TheVariants.{At, Refused}
+use Rattle.mesh.specs.Run.{ruled_at, run_at, unjudged}
+use Rattle.mesh.specs.Inside.{rule_at, rules_from, stored_run}
+use Rattle.mesh.specs.declared.run.Ended.{Ended}
 use Rattle.mesh.specs.declared.run.Rule.{Rule}
-use Rattle.mesh.proofs.Chains.{ended_at, ended_refused, on_mapped, sets_full}
+use Rattle.mesh.proofs.Chains.{on_mapped, sets_full}
 
 -- ---- the loop
 
-module _ (table s : List ℕ) (count i at next : ℕ) (values : List ℕ) where
-  pub run_more : (v : ℕ) → i < count → ruled_at (rule_at table i) s at ≡ done v
-      → stored_run values i next (run_at (rules_from table i (count - i)) s at)
-      ≡ stored_run (set values i v) (i + 1) next (run_at (rules_from table (i + 1) (count - (i + 1))) s (at + 4))
+module _ (rules : List Rule) (s : List ℕ) (count i at next : ℕ) (values : List ℕ) where
+  pub run_more : (v : ℕ) → i < count → ruled_at (rule_at rules i) s at ≡ done v
+      → stored_run values i next (run_at (rules_from rules i (count - i)) s at)
+      ≡ stored_run (set values i v) (i + 1) next (run_at (rules_from rules (i + 1) (count - (i + 1))) s (at + 4))
   unfolding run_at rules_from
   run_more v h e =
       let k : count - i ≡ suc (count - (i + 1)) = omega arith in
-      rw (k, rules_from, run_at, e, add-one) (on_mapped (run_at (rules_from table (suc i) (count - suc i)) s (at + 4)) _ _)
+      rw (k, rules_from, run_at, e, add-one) (on_mapped (run_at (rules_from rules (suc i) (count - suc i)) s (at + 4)) _ _)
 
-  pub run_refused : (n p : ℕ) → i < count → ruled_at (rule_at table i) s at ≡ refused n p
-      → stored_run values i next (run_at (rules_from table i (count - i)) s at) ≡ refused n p
+  pub run_refused : (n p : ℕ) → i < count → ruled_at (rule_at rules i) s at ≡ refused n p
+      → stored_run values i next (run_at (rules_from rules i (count - i)) s at) ≡ refused n p
   unfolding run_at rules_from
   run_refused n p h e =
       let k : count - i ≡ suc (count - (i + 1)) = omega arith in
       rw (k, rules_from, run_at, e)
 
-  pub run_none : count ≤ i → stored_run values i next (run_at (rules_from table i (count - i)) s at) ≡ done (record { value = values; next = next })
+  pub run_none : count ≤ i → stored_run values i next (run_at (rules_from rules i (count - i)) s at) ≡ done (record { value = values; next = next })
   unfolding run_at rules_from
   run_none h =
       let k : count - i ≡ 0 = omega arith in
@@ -106,31 +104,42 @@ run_within (rule ∷ rules) s at vs h e =
 
 -- ---- what a caller learns
 
-module _ (rules : List Rule) (s : List ℕ) (at : ℕ) (next : Next) (values table : List ℕ) (end : ℕ)
-    (e : ended_given next values ≡ stored_run table 0 end (run_at rules s at)) where
-  -- the values stand in the table
-  pub run_stored : {x : ℕ} → next ≡ At x → (vs : List ℕ) × (run_at rules s at ≡ done vs) × (values ≡ sets table 0 vs) × (x ≡ end)
-  run_stored {x} f =
-      let r : Ended (List ℕ) = record { value = values; next = x } in
-      let g = value_before (run_at rules s at) _ r (ended_at next values e f) in
-      let same : ◌≡◌ {A = Ended (List ℕ)} (record { value = sets table 0 g.0; next = end }) r = cc in
-      (g.0, g.1, ap (λ (y : Ended (List ℕ)). y.value) (sym same), ap (λ (y : Ended (List ℕ)). y.next) (sym same))
+-- the values stand in the table
+pub run_stored : (rules : List Rule) (s : List ℕ) (at : ℕ) (values table : List ℕ) (end x : ℕ)
+    → done (record { value = values; next = x }) ≡ stored_run table 0 end (run_at rules s at)
+    → (vs : List ℕ) × (run_at rules s at ≡ done vs) × (values ≡ sets table 0 vs) × (x ≡ end)
+run_stored rules s at values table end x e =
+    let r : Ended (List ℕ) = record { value = values; next = x } in
+    let g = value_before (run_at rules s at) _ r (sym e) in
+    let same : ◌≡◌ {A = Ended (List ℕ)} (record { value = sets table 0 g.0; next = end }) r = cc in
+    (g.0, g.1, ap (λ (y : Ended (List ℕ)). y.value) (sym same), ap (λ (y : Ended (List ℕ)). y.next) (sym same))
 
-  pub run_failed : {x : Refusal} → next ≡ Refused x → run_at rules s at ≡ refused x.number x.place
-  run_failed {x} f = refusal_before (run_at rules s at) _ x.number x.place (ended_refused next values e f)
+pub run_failed : (rules : List Rule) (s : List ℕ) (at : ℕ) (table : List ℕ) (end n p : ℕ)
+    → refused n p ≡ stored_run table 0 end (run_at rules s at) → run_at rules s at ≡ refused n p
+run_failed rules s at table end n p e = refusal_before (run_at rules s at) _ n p (sym e)
 
 -- and fill a table that is just as long
-pub run_told : (rules : List Rule) (s : List ℕ) (at : ℕ) (next : Next) (values : List ℕ) (end : ℕ)
-    → ended_given next values ≡ stored_run (replicate (length rules) 0) 0 end (run_at rules s at)
-    → {x : ℕ} → next ≡ At x → (run_at rules s at ≡ done values) × (x ≡ end)
-run_told rules s at next values end e {x} f =
-    let g = run_stored rules s at next values _ end e f in
-    let full : sets (replicate (length rules) 0) 0 g.0 ≡ g.0 = sets_full (length rules) 0 g.0 (run_length rules s at g.0 g.1) in
+pub run_told : (rules : List Rule) (s : List ℕ) (at : ℕ) (values table : List ℕ) (end x : ℕ) → length table ≡ length rules
+    → done (record { value = values; next = x }) ≡ stored_run table 0 end (run_at rules s at)
+    → (run_at rules s at ≡ done values) × (x ≡ end)
+run_told rules s at values table end x long e =
+    let g = run_stored rules s at values table end x e in
+    let full : sets table 0 g.0 ≡ g.0 = sets_full table g.0 (run_length rules s at g.0 g.1 ∙ sym long) in
     (g.1 ∙ ap done (sym (g.2 ∙ full)), g.3)
 
 -- ---- fields that are not judged
 
 pub unjudged_rules : (n i : ℕ) → rules_from [] i n ≡ replicate n unjudged
-unfolding rules_from rule_at
+unfolding rules_from
 unjudged_rules zero i = refl
-unjudged_rules (suc n) i = rw (le-ltb (3 * i + 2) 0 (omega arith)) (ap (λ (l : List Rule). unjudged ∷ l) (unjudged_rules n (suc i)))
+unjudged_rules (suc n) i = ap (λ (l : List Rule). unjudged ∷ l) (unjudged_rules n (suc i))
+
+-- such fields in a table of n words
+module _ (s : List ℕ) (at : ℕ) (table : List ℕ) (end n : ℕ) (long : length table ≡ n) where
+  pub free_told : (values : List ℕ) (x : ℕ) → done (record { value = values; next = x }) ≡ stored_run table 0 end (run_at (rules_from [] 0 n) s at)
+      → (run_at (replicate n unjudged) s at ≡ done values) × (x ≡ end)
+  free_told values x e =
+      run_told (replicate n unjudged) s at values table end x (long ∙ sym (length-replicate n unjudged)) (rw (unjudged_rules n 0) at e)
+
+  pub free_failed : (m p : ℕ) → refused m p ≡ stored_run table 0 end (run_at (rules_from [] 0 n) s at) → run_at (replicate n unjudged) s at ≡ refused m p
+  free_failed m p e = run_failed (replicate n unjudged) s at table end m p (rw (unjudged_rules n 0) at e)

@@ -1,20 +1,23 @@
 -- The base mesh (01, "Mesh declaration and base mesh"; clause 9.6.1.2): name, chain index and six base counts, then 12, the pools, the faces.
-use Rattle.std.specs.Prelude.{ℕ, ◌+◌, ◌*◌, Bool, not, List, [], ◌∷◌, leb, ltb, drop, get_or, length, replicate}
+use Rattle.std.specs.Prelude.{ℕ, ◌+◌, ◌*◌, Bool, not, List, [], ◌∷◌, leb, ltb, drop, get_or, length, replicate, Result, Ok, Err}
 use Rattle.fields.specs.All.{all}
 use Rattle.fields.specs.Limits.{largest_count, largest_file}
-use Rattle.fields.specs.Numbers.{bad_name, no_room, over_limit}
+use Rattle.fields.specs.Numbers.{bad_name, fault_number, no_room, over_limit}
 use Rattle.fields.specs.Judged.{Judged, done, refused, on_done, pick, refused_if}
 use Rattle.fields.specs.Name.{name_at, name_part, same}
-use Rattle.mesh.specs.Run.{Ended, filled, run_at, unjudged, up_to, values_of}
+use Rattle.mesh.specs.Run.{filled, run_at, unjudged, up_to, values_of}
 use Rattle.mesh.specs.Declaration.{declaration_of, mesh_name}
 use Rattle.mesh.specs.Corners.{face_words}
 use Rattle.mesh.specs.Faces.{faces_of, placed_at}
+use Rattle.std.specs.Borrow.{MutBor}
 use Rattle.mesh.specs.declared.run.Rule.{Rule}
+use Rattle.mesh.specs.declared.tables.Tables as lent
+use Rattle.mesh.specs.declared.run.Ended.{Ended}
 use Rattle.mesh.specs.declared.declaration.Declaration.{Declaration}
 use Rattle.mesh.specs.declared.base.MeshCounts.{MeshCounts}
 use Rattle.mesh.specs.declared.base.Part.{Part}
 use Rattle.mesh.specs.declared.base.Part as part
-use Rattle.mesh.specs.declared.base.MeshRead as mesh
+use Rattle.mesh.specs.declared.base.MeshRefusal.{MeshRefusal}
 
 -- ---- the head
 
@@ -144,9 +147,9 @@ counts_of m = record {
 }
 
 -- 01's number, part and place, or the counts, of each case
-abbrev pub mesh_given : mesh.MeshRead → InPart MeshCounts
-mesh_given (mesh.TheVariants.Read counts) = read counts
-mesh_given (mesh.TheVariants.Refused p e) = refused_in p e.number e.place
+abbrev pub mesh_given : Result MeshCounts MeshRefusal → InPart MeshCounts
+mesh_given (Ok counts) = read counts
+mesh_given (Err e) = refused_in e.part (fault_number e.refusal.fault) e.refusal.place
 
 abbrev pub answered : InPart Mesh → InPart MeshCounts
 answered (read m) = read (counts_of m)
@@ -165,9 +168,23 @@ abbrev pub tables : List ℕ → List ℕ → List ℕ → List ℕ → List ℕ
 tables faces positions normals diffuse specular texture =
     record { faces = faces; positions = positions; normals = normals; diffuse = diffuse; specular = specular; texture = texture }
 
+-- the tables that are lent, and as they are left
+abbrev pub held : lent.Tables → Tables
+held t = tables t.faces.now t.positions.now t.normals.now t.diffuse.now t.specular.now t.texture.now
+
+abbrev pub Slice : Type 0
+Slice = MutBor (List ℕ)
+
+abbrev pub left : Slice × (Slice × (Slice × (Slice × (Slice × (Slice × Unit {0}))))) → Tables
+left t = tables t.0.now t.1.0.now t.1.1.0.now t.1.1.1.0.now t.1.1.1.1.0.now t.1.1.1.1.1.0.now
+
 abbrev pub lengths_of : Tables → List ℕ
 lengths_of t =
     length t.faces ∷ length t.positions ∷ length t.normals ∷ length t.diffuse ∷ length t.specular ∷ length t.texture ∷ []
+
+-- a mesh that is read into tables
+abbrev pub mesh_in : List ℕ → List ℕ → Tables → InPart Mesh
+mesh_in d s t = mesh_of d s (lengths_of t)
 
 -- "On success all room past the base is set to 0"
 abbrev pub table_of : List ℕ → List ℕ → List ℕ

@@ -1,16 +1,15 @@
 -- The mesh declaration (clause 9.6.1.1; 01, "Mesh declaration and base mesh"): "fields in the order of clause 9.6.1, from name to bone
 -- count".
-use Rattle.std.specs.Prelude.{ℕ, ◌+◌, List, [], ◌∷◌, ltb, get_or, length, replicate}
+use Rattle.std.specs.Prelude.{ℕ, ◌+◌, List, [], ◌∷◌, ltb, get_or, length}
 use Rattle.fields.specs.Limits.{largest_count, largest_file}
 use Rattle.fields.specs.Numbers.{bytes_left, over_limit}
-use Rattle.fields.specs.Judged.{Judged, done, refused, on_done, pick, refused_if}
+use Rattle.fields.specs.Judged.{Judged, done, on_done, pick, refused_if}
 use Rattle.fields.specs.Name.{name_at, name_part}
 use Rattle.mesh.specs.Run.{filled, limited, run_at, unjudged, up_to, values_of}
-use Rattle.mesh.specs.Shading.{no_shading, no_shadings, shading_limit, shadings_at}
+use Rattle.mesh.specs.Shading.{no_shading, shading_limit, shadings_at}
 use Rattle.mesh.specs.declared.run.Rule.{Rule}
 use Rattle.mesh.specs.declared.shading.Shading.{Shading}
 use Rattle.mesh.specs.declared.declaration.Declaration.{Declaration}
-use Rattle.mesh.specs.declared.declaration.DeclarationRead.{DeclarationRead}
 
 -- the fields after the name
 abbrev pub opening_rules : List Rule
@@ -65,15 +64,6 @@ declaration_of s =
     on_done (run_at closing_rules s shadings.next) λ tail.
     refused_if (ltb (shadings.next + 56) (length s)) bytes_left (shadings.next + 56)
     (done (declaration_with size head (filled shading_limit no_shading shadings.value) tail)))
-
--- "a refusal gives back number and place with every other result 0"
-abbrev pub no_declaration : Declaration
-no_declaration = declaration_with 0 (replicate 9 0) no_shadings (replicate 14 0)
-
--- 01's number, place and values of the answer
-abbrev pub declaration_read : Judged Declaration → DeclarationRead
-declaration_read (done d) = record { number = 0; place = 0; declaration = d }
-declaration_read (refused n p) = record { number = n; place = p; declaration = no_declaration }
 
 -- the name, as a part of the caller's bytes; none where the data is above its limit
 unfoldable pub mesh_name : List ℕ → List ℕ

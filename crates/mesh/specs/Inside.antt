@@ -1,75 +1,54 @@
 -- Inside the crate: what its private functions promise. No public promise cites this file.
-use Rattle.std.specs.Prelude.{ℕ, zero, suc, ◌+◌, ◌*◌, ◌≤◌, ◌<◌, ◌≡◌, List, [], ◌∷◌, ltb, drop, get_or, length, replicate}
+use Rattle.std.specs.Prelude.{ℕ, zero, suc, ◌+◌, ◌*◌, ◌≤◌, ◌<◌, ◌≡◌, List, [], ◌∷◌, ltb, drop, get_or, length, replicate, Result, Ok, Err}
 use Rattle.std.proofs.lemmas.List.Edits.{sets}
-use Rattle.fields.specs.Numbers.{bytes_left}
-use Rattle.fields.specs.Judged.{Judged, done, refused, refused_by, on_done, pick, refused_if}
+use Rattle.fields.specs.Numbers.{bytes_left, fault_number}
+use Rattle.fields.specs.declared.refusal.Fault.{Fault}
+use Rattle.fields.specs.Judged.{Judged, done, refused, given, on_done, refused_if}
+use Rattle.fields.specs.declared.refusal.Refusal.{Refusal}
 use Rattle.fields.specs.Name.{name_at}
 use Rattle.coder.specs.Bytes.{bit_at}
 use Rattle.coder.specs.Interval.{Inverted}
-use Rattle.coder.specs.declared.read.Read as number
-use Rattle.mesh.specs.Run.{Ended, run_at, unjudged}
+use Rattle.coder.specs.declared.read.Found.{Found}
+use Rattle.coder.specs.declared.interval.Coder.{Coder}
+use Rattle.mesh.specs.Run.{run_at, unjudged}
 use Rattle.mesh.specs.Declaration.{closing_rules, declaration_with}
 use Rattle.mesh.specs.Faces.{Coded, faces_of, placed_at}
-use Rattle.mesh.specs.Base.{InPart, Mesh, in_part, pool_words, pools_at, read, table_count, words_in}
+use Rattle.mesh.specs.Base.{Mesh, pool_words, pools_at, table_count, words_in}
 use Rattle.mesh.specs.declared.run.Rule.{Rule}
-use Rattle.mesh.specs.declared.run.Field as field
-use Rattle.mesh.specs.declared.run.Next.{Next}
-use Rattle.mesh.specs.declared.run.Next.TheVariants.{At, Refused}
+use Rattle.mesh.specs.declared.run.Ended.{Ended}
 use Rattle.mesh.specs.declared.shading.Shading.{Shading}
-use Rattle.mesh.specs.declared.shading.ShadingRead.{ShadingRead}
-use Rattle.mesh.specs.declared.shading.ShadingsRead.{ShadingsRead}
 use Rattle.mesh.specs.declared.declaration.Declaration.{Declaration}
-use Rattle.mesh.specs.declared.declaration.DeclarationJudged.{DeclarationJudged}
-use Rattle.mesh.specs.declared.faces.Corners as corners
-use Rattle.mesh.specs.declared.faces.Faces as faces
-use Rattle.mesh.specs.declared.head.Head.{Head}
 use Rattle.mesh.specs.declared.base.MeshCounts.{MeshCounts}
-use Rattle.mesh.specs.declared.base.Part as part
+use Rattle.mesh.specs.declared.base.Part.{Part}
+use Rattle.mesh.specs.declared.base.MeshRefusal.{MeshRefusal}
 
 -- ---- answers of the private functions
 
-abbrev pub field_given : field.Field → Judged ℕ
-field_given (field.TheVariants.Value v) = done v
-field_given (field.TheVariants.Refused e) = refused_by e
-
-abbrev pub next_given : Next → Judged ℕ
-next_given (At at) = done at
-next_given (Refused e) = refused_by e
-
--- a value, where it ends; a refusal needs none
-abbrev pub ended_given : {A : Type 0} → Next → A → Judged (Ended A)
-ended_given (At at) value = done (record { value = value; next = at })
-ended_given (Refused e) value = refused_by e
-
-abbrev pub shading_given : ShadingRead → Judged (Ended Shading)
-shading_given r = ended_given r.next r.shading
-
-abbrev pub shadings_given : ShadingsRead → Judged (Ended (List Shading))
-shadings_given r = ended_given r.next r.shadings
-
-abbrev pub head_given : Head → Judged (Ended (List ℕ))
-head_given r = ended_given r.next r.counts
+-- a value stored at the end of what was read; a refusal needs none
+abbrev pub ended_given : {A : Type 0} → Result ℕ Refusal → A → Judged (Ended A)
+ended_given r value = on_done (given r) λ next. done (record { value = value; next = next })
 
 -- ---- runs of fields
 
 unfoldable pub name_end : List ℕ → Judged ℕ
 name_end s = on_done (name_at s 0) λ size. done (size + 2)
 
--- rule i of a table of three numbers a rule; past its end fields are not judged
-unfoldable pub rule_at : List ℕ → ℕ → Rule
-rule_at table i =
-    pick (ltb (3 * i + 2) (length table))
-    (record { limit = get_or table (3 * i) 0; least = get_or table (3 * i + 1) 0; most = get_or table (3 * i + 2) 0 })
-    unjudged
+-- rule i; past the last one fields are not judged
+abbrev pub rule_at : List Rule → ℕ → Rule
+rule_at rules i = get_or rules i unjudged
 
 -- n rules from rule i on
-unfoldable pub rules_from : List ℕ → ℕ → ℕ → List Rule
-rules_from table i zero = []
-rules_from table i (suc n) = rule_at table i ∷ rules_from table (suc i) n
+unfoldable pub rules_from : List Rule → ℕ → ℕ → List Rule
+rules_from rules i zero = []
+rules_from rules i (suc n) = rule_at rules i ∷ rules_from rules (suc i) n
 
 -- the values of a run that ends at `next`, stored from index i on
 abbrev pub stored_run : List ℕ → ℕ → ℕ → Judged (List ℕ) → Judged (Ended (List ℕ))
 stored_run table i next run = on_done run λ values. done (record { value = sets table i values; next = next })
+
+-- a run that fills a table, with a rule for each field
+abbrev pub run_into : List ℕ → List Rule → List ℕ → ℕ → Judged (Ended (List ℕ))
+run_into table rules s from = stored_run table 0 (from + 4 * length table) (run_at (rules_from rules 0 (length table)) s from)
 
 -- shadings stored from index i on
 abbrev pub stored_shadings : List Shading → ℕ → Judged (Ended (List Shading)) → Judged (Ended (List Shading))
@@ -81,31 +60,33 @@ closing_at s from size head shadings =
     on_done (run_at closing_rules s from) λ tail.
     refused_if (ltb (from + 56) (length s)) bytes_left (from + 56) (done (declaration_with size head shadings tail))
 
-abbrev pub declared_given : DeclarationJudged → Judged Declaration
-declared_given r = on_done (next_given r.next) λ _. done r.declaration
-
 -- ---- coded numbers
 
--- the pending bits of a state that is handed out are inverted
-abbrev pub ReadInverted : List ℕ → number.Read → Type 0
-ReadInverted d (number.TheVariants.Got v s) = Inverted s (bit_at d)
-ReadInverted d (number.TheVariants.Refused n s) = Unit {0}
+-- what was read; the place of a refusal is set above
+abbrev pub found_given : Result Found Fault → Judged (Coded ℕ)
+found_given (Ok found) = done (record { value = found.value; state = found.state })
+found_given (Err fault) = refused (fault_number fault) 0
 
-abbrev pub CornersInverted : List ℕ → corners.Corners → Type 0
-CornersInverted d (corners.TheVariants.Read s) = Inverted s (bit_at d)
-CornersInverted d (corners.TheVariants.Refused n) = Unit {0}
+-- the pending bits of a state that is handed out are inverted
+abbrev pub ReadInverted : List ℕ → Result Found Fault → Type 0
+ReadInverted d (Ok found) = Inverted found.state (bit_at d)
+ReadInverted d (Err fault) = Unit {0}
+
+abbrev pub CornersInverted : List ℕ → Result Coder Fault → Type 0
+CornersInverted d (Ok s) = Inverted s (bit_at d)
+CornersInverted d (Err fault) = Unit {0}
 
 -- words stored from an index on; a refusal leaves the rest open
-abbrev pub corners_given : corners.Corners → List ℕ → Judged (Coded (List ℕ))
-corners_given (corners.TheVariants.Read s) table = done (record { value = table; state = s })
-corners_given (corners.TheVariants.Refused n) table = refused n 0
+abbrev pub corners_given : Result Coder Fault → List ℕ → Judged (Coded (List ℕ))
+corners_given (Ok s) table = done (record { value = table; state = s })
+corners_given (Err fault) table = refused (fault_number fault) 0
 
 abbrev pub stored_words : List ℕ → ℕ → Judged (Coded (List ℕ)) → Judged (Coded (List ℕ))
 stored_words table at coded = on_done coded λ words. done (record { value = sets table at words.value; state = words.state })
 
-abbrev pub faces_given : faces.Faces → List ℕ → Judged (List ℕ)
-faces_given faces.TheVariants.Read table = done table
-faces_given (faces.TheVariants.Refused n) table = refused n 0
+abbrev pub faces_given : Result (Unit {0}) Fault → List ℕ → Judged (List ℕ)
+faces_given (Ok none) table = done table
+faces_given (Err fault) table = refused (fault_number fault) 0
 
 abbrev pub stored_faces : List ℕ → ℕ → Judged (List ℕ) → Judged (List ℕ)
 stored_faces table at words = on_done words λ values. done (sets table at values)
@@ -148,8 +129,8 @@ mesh_from s declaration counts at = record {
 }
 
 -- what is judged of a continuation states the mesh
-unfoldable pub judged_given : List ℕ → Declaration → Head → Judged Mesh
-judged_given s declaration r = on_done (next_given r.next) λ at. done (mesh_from s declaration r.counts at)
+unfoldable pub judged_given : List ℕ → Declaration → Result (Ended (List ℕ)) Refusal → Judged Mesh
+judged_given s declaration r = on_done (given r) λ head. done (mesh_from s declaration head.value head.next)
 
 -- pools and faces
 unfoldable pub contents_at : List ℕ → Declaration → List ℕ → ℕ → Judged Mesh
@@ -165,19 +146,23 @@ pub record FacesFit (s : List ℕ) (declaration : Declaration) (counts : List �
   pub coded : faces_in s declaration counts at ≡ done (base_faces s declaration counts at)
 
 -- where pools and faces are not refused, they are those from `at` on
-abbrev pub ContentsFit : List ℕ → Declaration → List ℕ → ℕ → Head → Type 0
+abbrev pub ContentsFit : List ℕ → Declaration → List ℕ → ℕ → Result (Ended (List ℕ)) Refusal → Type 0
 ContentsFit s declaration counts at r =
-    (x : ℕ) → r.next ≡ At x
-    → (x ≡ at) × (r.counts ≡ counts) × (faces_start at counts ≤ length s) × (faces_in s declaration counts at ≡ done (base_faces s declaration counts at))
+    (head : Ended (List ℕ)) → r ≡ Ok head
+    → (head.next ≡ at) × (head.value ≡ counts) × (faces_start at counts ≤ length s)
+    × (faces_in s declaration counts at ≡ done (base_faces s declaration counts at))
 
 -- where a continuation is not refused, its faces and pools fit
-abbrev pub JudgedFits : List ℕ → Declaration → List ℕ → Head → Type 0
+abbrev pub JudgedFits : List ℕ → Declaration → List ℕ → Result (Ended (List ℕ)) Refusal → Type 0
 JudgedFits s declaration lengths r =
-    (at : ℕ) → r.next ≡ At at
-    → FacesFit s declaration r.counts at (get_or lengths 0 0) × ((i : ℕ) → i < table_count → words_in r.counts i ≤ get_or lengths i 0)
+    (head : Ended (List ℕ)) → r ≡ Ok head
+    → FacesFit s declaration head.value head.next (get_or lengths 0 0)
+    × ((i : ℕ) → i < table_count → words_in head.value i ≤ get_or lengths i 0)
 
-abbrev pub in_continuation : Judged Mesh → InPart Mesh
-in_continuation j = in_part part.TheVariants.Continuation j read
+-- an answer on a part
+abbrev pub placed : {A : Type 0} → Part → Result A Refusal → Result A MeshRefusal
+placed p (Ok a) = Ok a
+placed p (Err e) = Err (record { part = p; refusal = e })
 
 abbrev pub counts_from : List ℕ → ℕ → MeshCounts
 counts_from counts shadings = record {

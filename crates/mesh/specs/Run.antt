@@ -39,11 +39,6 @@ abbrev pub values_of : List ℕ → ℕ → ℕ → List ℕ
 values_of l i zero = []
 values_of l i (suc n) = get_or l i 0 ∷ values_of l (suc i) n
 
--- a value, and where it ends
-pub record Ended (A : Type 0) : Type 0 where
-  pub value : A
-  pub next : ℕ
-
 -- a list in so much room: the rest holds `empty`
 abbrev pub filled : {A : Type 0} → ℕ → A → List A → List A
 filled room empty l = l ++ replicate (room - length l) empty

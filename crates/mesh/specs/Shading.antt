@@ -2,8 +2,9 @@
 use Rattle.std.specs.Prelude.{ℕ, zero, suc, ◌+◌, ◌*◌, List, [], ◌∷◌, get_or, replicate}
 use Rattle.fields.specs.Judged.{Judged, done, on_done}
 use Rattle.fields.specs.Field.{field_at}
-use Rattle.mesh.specs.Run.{Ended, filled, limited, run_at, unjudged, up_to}
+use Rattle.mesh.specs.Run.{filled, limited, run_at, unjudged, up_to}
 use Rattle.mesh.specs.declared.run.Rule.{Rule}
+use Rattle.mesh.specs.declared.run.Ended.{Ended}
 use Rattle.mesh.specs.declared.shading.Shading.{Shading}
 
 -- "Shadings 64, texture layers per shading 2"

@@ -1,50 +1,70 @@
 // The mesh declaration (clause 9.6.1.1): its fields in file order, from the name to the bone count.
 ghost use Rattle.std.specs.Prelude.{◌≡◌};
-ghost use Rattle.fields.specs.Judged.{refused_by};
-ghost use Rattle.mesh.specs.Declaration.{declaration_of, declaration_read, declaration_with, mesh_name, no_declaration};
-ghost use Rattle.mesh.specs.Inside.{closing_at, declared_given};
+ghost use Rattle.fields.specs.Judged.{given};
+ghost use Rattle.mesh.specs.Declaration.{declaration_of, declaration_with, mesh_name};
+ghost use Rattle.mesh.specs.Inside.{closing_at};
 
-use crate::run::{Next, name_end, read_run};
-use crate::shading::{SHADINGS, Shading, no_shadings, read_shadings};
-use fields::limits::{LARGEST_COUNT, LARGEST_FILE, LARGEST_U32 as ANY};
+use crate::run::{Rule, UNJUDGED, name_end, read_run};
+use crate::shading::{SHADINGS, Shading, read_shadings};
+use crate::tables::TABLES;
+use fields::limits::{LARGEST_COUNT, LARGEST_FILE};
 use fields::name::name_part;
-use fields::numbers::{BYTES_LEFT, OVER_LIMIT, Refusal};
+use fields::refusal::{Fault, Refusal};
 
-// The rules of the fields before the shadings: limit (else 9), least and most (else 11).
-const OPENING: [u32; 27] = [
-    ANY,
-    0,
-    0,
-    ANY,
-    0,
-    1,
-    LARGEST_COUNT,
-    0,
-    ANY,
-    LARGEST_COUNT,
-    0,
-    ANY,
-    LARGEST_COUNT,
-    0,
-    ANY,
-    LARGEST_COUNT,
-    0,
-    ANY,
-    LARGEST_COUNT,
-    0,
-    ANY,
-    LARGEST_COUNT,
-    0,
-    ANY,
-    SHADINGS as u32,
-    0,
-    ANY,
+// A count of faces, or of a pool's entries.
+const COUNT: Rule = Rule {
+    limit: LARGEST_COUNT,
+    ..UNJUDGED
+};
+
+// The rules of the fields before the shadings.
+const OPENING: [Rule; 9] = [
+    // Chain index.
+    Rule {
+        most: 0,
+        ..UNJUDGED
+    },
+    // Attributes.
+    Rule {
+        most: 1,
+        ..UNJUDGED
+    },
+    // Faces, positions, normals, diffuse colors, specular colors, texture coordinates.
+    COUNT,
+    COUNT,
+    COUNT,
+    COUNT,
+    COUNT,
+    COUNT,
+    // Shading count.
+    Rule {
+        limit: SHADINGS as u32,
+        ..UNJUDGED
+    },
 ];
 
-// The rules of the fields after the shadings: none, and a bone count of 0 (else 9).
-const CLOSING: [u32; 42] = [
-    ANY, 0, ANY, ANY, 0, ANY, ANY, 0, ANY, ANY, 0, ANY, ANY, 0, ANY, ANY, 0, ANY, ANY, 0, ANY, ANY,
-    0, ANY, ANY, 0, ANY, ANY, 0, ANY, ANY, 0, ANY, ANY, 0, ANY, ANY, 0, ANY, 0, 0, ANY,
+// The fields after the shadings.
+const CLOSING_FIELDS: usize = 14;
+
+// The rules of these fields: none, but for the last one, the bone count.
+const CLOSING: [Rule; CLOSING_FIELDS] = [
+    UNJUDGED,
+    UNJUDGED,
+    UNJUDGED,
+    UNJUDGED,
+    UNJUDGED,
+    UNJUDGED,
+    UNJUDGED,
+    UNJUDGED,
+    UNJUDGED,
+    UNJUDGED,
+    UNJUDGED,
+    UNJUDGED,
+    UNJUDGED,
+    Rule {
+        limit: 0,
+        ..UNJUDGED
+    },
 ];
 
 // A mesh declaration. Its name stands after the two bytes of its length. Inverse quants and parameters are F32 bit patterns.
@@ -55,7 +75,8 @@ pub struct Declaration {
     // Bit 0: no normals.
     pub attributes: u32,
     // Faces, positions, normals, diffuse colors, specular colors, texture coordinates.
-    pub counts: [u32; 6],
+    // Kept: `Declarable` of mesh_theorems speaks of the arrays of this struct as lists.
+    pub counts: [u32; TABLES],
     pub shading_count: u32,
     pub shadings: [Shading; SHADINGS],
     pub minimum_resolution: u32,
@@ -69,21 +90,6 @@ pub struct Declaration {
     pub bone_count: u32,
 }
 
-// A declaration, and where its data ends; or why it is refused.
-#[derive(Drop)]
-pub struct DeclarationJudged {
-    pub next: Next,
-    pub declaration: Declaration,
-}
-
-// What reading a declaration gives: document 01's number and place, and the declaration, all 0 where it is refused.
-#[derive(Drop)]
-pub struct DeclarationRead {
-    pub number: u32,
-    pub place: usize,
-    pub declaration: Declaration,
-}
-
 // The name at the start of a declaration's or a continuation's data; empty where there is none.
 pub fn mesh_name(s: &[u8]) -> &[u8]
     ensures { result.now ≡ mesh_name s.now }
@@ -95,11 +101,12 @@ pub fn mesh_name(s: &[u8]) -> &[u8]
 }
 
 // The declaration with these fields.
+// Kept: both runs are arrays, since a run is read into one; their fields get their names here.
 fn with_fields(
     name_size: usize,
     head: [u32; 9],
     shadings: [Shading; SHADINGS],
-    tail: [u32; 14],
+    tail: [u32; CLOSING_FIELDS],
 ) -> Declaration
     ensures { result ≡ declaration_with name_size head shadings tail }
 {
@@ -119,21 +126,6 @@ fn with_fields(
     }
 }
 
-fn no_declaration() -> Declaration
-    ensures { result ≡ no_declaration }
-{
-    with_fields(0, [0; 9], no_shadings(), [0; 14])
-}
-
-fn refused_declaration(e: Refusal) -> DeclarationJudged
-    ensures { declared_given result ≡ refused_by e }
-{
-    DeclarationJudged {
-        next: Next::Refused(e),
-        declaration: no_declaration(),
-    }
-}
-
 // Reads the fields after the shadings, which end at `from`.
 fn read_closing(
     s: &[u8],
@@ -141,82 +133,27 @@ fn read_closing(
     name_size: usize,
     head: [u32; 9],
     shadings: [Shading; SHADINGS],
-) -> DeclarationJudged
-    ensures { declared_given result ≡ closing_at s.now from name_size head shadings }
+) -> Result<Declaration, Refusal>
+    ensures { given result ≡ closing_at s.now from name_size head shadings }
 {
-    let mut tail = [0u32; 14];
-    let end = match read_run(s, from, &CLOSING, 14, &mut tail) {
-        Next::At(end) => end,
-        Next::Refused(e) => {
-            return refused_declaration(e);
-        }
-    };
+    let mut tail = [0u32; CLOSING_FIELDS];
+    let end = read_run(s, from, &CLOSING, &mut tail)?;
     if end < s.len() {
-        return refused_declaration(Refusal {
-            number: BYTES_LEFT,
-            place: end,
-        });
+        return Err(Fault::BytesLeft.at(end));
     }
-    DeclarationJudged {
-        next: Next::At(end),
-        declaration: with_fields(name_size, head, shadings, tail),
-    }
-}
-
-// Judges a mesh declaration's data.
-pub(crate) fn judge_declaration(s: &[u8]) -> DeclarationJudged
-    ensures { declared_given result ≡ declaration_of s.now }
-{
-    if LARGEST_FILE < s.len() {
-        return refused_declaration(Refusal {
-            number: OVER_LIMIT,
-            place: 0,
-        });
-    }
-    let end = match name_end(s) {
-        Next::At(end) => end,
-        Next::Refused(e) => {
-            return refused_declaration(e);
-        }
-    };
-    let mut head = [0u32; 9];
-    let at = match read_run(s, end, &OPENING, 9, &mut head) {
-        Next::At(at) => at,
-        Next::Refused(e) => {
-            return refused_declaration(e);
-        }
-    };
-    let read = read_shadings(s, at, head[8]);
-    let next = read.next;
-    let from = match next {
-        Next::At(from) => from,
-        Next::Refused(e) => {
-            return refused_declaration(e);
-        }
-    };
-    let shadings = read.shadings;
-    read_closing(s, from, end - 2, head, shadings)
+    Ok(with_fields(name_size, head, shadings, tail))
 }
 
 // Reads a mesh declaration's data.
-pub fn read_declaration(s: &[u8]) -> DeclarationRead
-    ensures { result ≡ declaration_read (declaration_of s.now) }
+pub fn read_declaration(s: &[u8]) -> Result<Declaration, Refusal>
+    ensures { given result ≡ declaration_of s.now }
 {
-    let judged = judge_declaration(s);
-    let next = judged.next;
-    match next {
-        Next::Refused(e) => DeclarationRead {
-            number: e.number,
-            place: e.place,
-            declaration: no_declaration(),
-        },
-        Next::At(_) => {
-            let declaration = judged.declaration;
-            DeclarationRead {
-                number: 0,
-                place: 0,
-                declaration,
-            }
-        }
+    if LARGEST_FILE < s.len() {
+        return Err(Fault::OverLimit.at(0));
     }
+    let end = name_end(s)?;
+    let mut head = [0u32; 9];
+    let at = read_run(s, end, &OPENING, &mut head)?;
+    let shadings = read_shadings(s, at, head[8])?;
+    read_closing(s, shadings.next, end - 2, head, shadings.value)
 }

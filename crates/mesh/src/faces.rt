@@ -3,18 +3,19 @@ ghost use Rattle.std.specs.Prelude.{◌≡◌, [], ◌∷◌, ◌*◌, ◌^◌, 
 ghost use Rattle.coder.specs.Bytes.{bit_at};
 ghost use Rattle.coder.specs.Histogram.{sum};
 ghost use Rattle.coder.specs.Interval.{Inverted};
-ghost use Rattle.coder.specs.Reading.{read_given, taken_histogram};
+ghost use Rattle.coder.specs.Reading.{taken_histogram};
 ghost use Rattle.mesh.specs.Corners.{corner_fields, present, range_of};
-ghost use Rattle.mesh.specs.Faces.{coded_number, corners_from, faces_of, field_from, shading_from};
+ghost use Rattle.mesh.specs.Faces.{corners_from, faces_of, field_from, shading_from};
 ghost use Rattle.mesh.specs.Shading.{shading_limit};
-ghost use Rattle.mesh.specs.Inside.{CornersInverted, ReadInverted, corners_given, faces_given, stored_faces, stored_words};
+ghost use Rattle.mesh.specs.Inside.{CornersInverted, ReadInverted, corners_given, faces_given, found_given, stored_faces, stored_words};
 
 use crate::declaration::Declaration;
 use crate::shading::LAYERS;
+use crate::tables::{FACES, TABLES, TEXTURE};
 use coder::histogram::{SYMBOLS, fresh_histogram};
 use coder::interval::Coder;
-use coder::read::Read;
-use fields::numbers::OUT_OF_RANGE;
+use coder::read::Found;
+use fields::refusal::Fault;
 use fields::words::put;
 
 // The words of a corner: position, normal, diffuse color, specular color, texture layers.
@@ -27,100 +28,75 @@ pub const FACE_WORDS: usize = 1 + 3 * CORNER_FIELDS;
 pub const ABSENT: u32 = 0xFFFFFFFF;
 
 // What a face asks of its corners.
-#[derive(Clone, Copy)]
+#[derive(Clone, Copy, Debug, PartialEq, Eq)]
 pub struct CornerForm {
     pub mesh_attributes: u32,
     pub shading_attributes: u32,
     pub layer_count: u32,
     // Base counts of faces, positions, normals, diffuse colors, specular colors, texture coordinates.
-    pub counts: [u32; 6],
-}
-
-// The coder's state after the corners, or the number of a refusal.
-#[derive(Drop)]
-pub enum Corners {
-    Read(Coder),
-    Refused(u32),
-}
-
-// That all faces were read, or the number of a refusal.
-#[derive(Drop)]
-pub enum Faces {
-    Read,
-    Refused(u32),
+    // Kept: `range_of` picks one by the number of a field.
+    pub counts: [u32; TABLES],
 }
 
 // Whether a corner has a field.
 fn is_present(form: CornerForm, field: usize) -> bool
     ensures { result ≡ present form field }
 {
-    if field == 0 {
-        return true;
+    match field {
+        0 => true,
+        1 => form.mesh_attributes % 2 == 0,
+        2 => form.shading_attributes % 2 == 1,
+        3 => form.shading_attributes / 2 % 2 == 1,
+        _ => field - 4 < form.layer_count as usize,
     }
-    if field == 1 {
-        return form.mesh_attributes % 2 == 0;
-    }
-    if field == 2 {
-        return form.shading_attributes % 2 == 1;
-    }
-    if field == 3 {
-        return form.shading_attributes / 2 % 2 == 1;
-    }
-    ((field - 4) as u64) < form.layer_count as u64
 }
 
 // The base count that a field's number is below.
 fn range_of(form: CornerForm, field: usize) -> u32
     ensures { result ≡ range_of form field }
 {
-    let counts = form.counts;
     if field < 4 {
-        counts[field + 1]
+        form.counts[field + 1]
     } else {
-        counts[5]
+        form.counts[TEXTURE]
     }
 }
 
 // Reads a field of a corner, where the face has it.
-fn take_field(form: CornerForm, field: usize, input: &[u8], state: Coder) -> Read
+fn take_field(form: CornerForm, field: usize, input: &[u8], state: Coder) -> Result<Found, Fault>
     requires { Inverted state (bit_at input.now) }
-    ensures result_value { coded_number (read_given result) ≡ field_from form field input.now state }
+    ensures result_value { found_given result ≡ field_from form field input.now state }
     ensures read_inverted { ReadInverted input.now result }
 {
     if is_present(form, field) {
         state.take_static(input, range_of(form, field))
     } else {
-        Read::Got(ABSENT, state)
+        Ok(Found {
+            value: ABSENT,
+            state,
+        })
     }
 }
 
-// Reads the three corners of a face, and stores their words from `at` on where there is room.
+// Reads the three corners of a face, and stores their words from `at` on where there is room; hands out the state after them.
 fn read_corners(
     form: CornerForm,
     input: &[u8],
     state: Coder,
     table: &mut [u32],
     at: usize,
-) -> Corners
+) -> Result<Coder, Fault>
     requires { Inverted state (bit_at input.now) × (at < 2 ^ 40) }
     ensures table_after { corners_given result table.new ≡ stored_words table.old at (corners_from form (3 * corner_fields) 0 input.now state) }
     ensures corners_inverted { CornersInverted input.now result }
 {
     let mut s = state;
-    let mut n = 0;
-    while n < 3 * CORNER_FIELDS {
-        match take_field(form, n % CORNER_FIELDS, input, s) {
-            Read::Refused(number, _) => {
-                return Corners::Refused(number);
-            }
-            Read::Got(value, next) => {
-                put(table, at + n, value);
-                s = next;
-                n = n + 1;
-            }
-        }
+    for n in 0..3 * CORNER_FIELDS {
+        let found = take_field(form, n % CORNER_FIELDS, input, s)?;
+        put(table, at + n, found.value);
+        s = found.state;
     }
-    Corners::Read(s)
+    Ok(s)
 }
 
 // Reads a face's shading id, which is below the shading count.
@@ -130,75 +106,49 @@ fn take_shading(
     histogram: &mut [u32; SYMBOLS],
     total: &mut u32,
     shading_count: u32,
-) -> Read
+) -> Result<Found, Fault>
     requires { Inverted state (bit_at input.now) × (total.old ≡ sum histogram.old) }
-    ensures result_value { coded_number (read_given result) ≡ shading_from shading_count (histogram.old ∷ []) input.now state }
+    ensures result_value { found_given result ≡ shading_from shading_count (histogram.old ∷ []) input.now state }
     ensures read_inverted { ReadInverted input.now result }
     ensures histogram_after { (histogram.new ≡ taken_histogram histogram.old input.now state) × (total.new ≡ sum histogram.new) }
 {
-    match state.take_dynamic(input, histogram, total) {
-        Read::Refused(number, next) => Read::Refused(number, next),
-        Read::Got(id, next) => {
-            if shading_count <= id {
-                return Read::Refused(OUT_OF_RANGE, next);
-            }
-            Read::Got(id, next)
-        }
+    let found = state.take_dynamic(input, histogram, total)?;
+    if shading_count <= found.value {
+        return Err(Fault::OutOfRange);
     }
-}
-
-// The number of a refusal; 0 where a value was read.
-fn refusal_number(read: Read) -> u32
-    ensures { result ≡ (read_given read).number }
-{
-    match read {
-        Read::Got(_, _) => 0,
-        Read::Refused(number, _) => number,
-    }
+    Ok(found)
 }
 
 // Reads the faces that are coded in `input` from its start on, and stores their records where there is room.
 pub(crate) fn read_faces(
     input: &[u8],
     declaration: Declaration,
-    counts: [u32; 6],
+    counts: [u32; TABLES],
     table: &mut [u32],
-) -> Faces
+) -> Result<(), Fault>
     requires { declaration.shading_count ≤ shading_limit }
     ensures { faces_given result table.new ≡ stored_faces table.old 0 (faces_of declaration counts (get_or counts 0 0) input.now) }
 {
-    let shadings = declaration.shadings;
     let mut histogram = fresh_histogram();
     let mut total: u32 = 1;
     let mut s = Coder::fresh();
-    let count = counts[0] as usize;
-    let mut i = 0;
-    while i < count {
-        let taken = take_shading(
+    for i in 0..counts[FACES] as usize {
+        let found = take_shading(
             input,
             s,
             &mut histogram,
             &mut total,
             declaration.shading_count,
-        );
-        let Read::Got(id, next) = taken else {
-            return Faces::Refused(refusal_number(taken));
-        };
-        put(table, FACE_WORDS * i, id);
-        let shading = shadings[id as usize];
+        )?;
+        put(table, FACE_WORDS * i, found.value);
+        let shading = declaration.shadings[found.value as usize];
         let form = CornerForm {
             mesh_attributes: declaration.attributes,
             shading_attributes: shading.attributes,
             layer_count: shading.layer_count,
             counts,
         };
-        s = match read_corners(form, input, next, table, FACE_WORDS * i + 1) {
-            Corners::Read(after) => after,
-            Corners::Refused(number) => {
-                return Faces::Refused(number);
-            }
-        };
-        i = i + 1;
+        s = read_corners(form, input, found.state, table, FACE_WORDS * i + 1)?;
     }
-    Faces::Read
+    Ok(())
 }

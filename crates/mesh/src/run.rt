@@ -1,130 +1,81 @@
-// Runs of U32 fields that are judged by a table of rules, and the name before them.
-ghost use Rattle.std.specs.Prelude.{◌≡◌, ◌+◌, ◌*◌, ◌≤◌, ◌<◌, length};
-ghost use Rattle.mesh.specs.Run.{ruled_at, run_at};
-ghost use Rattle.mesh.specs.Inside.{ended_given, field_given, name_end, next_given, rule_at, rules_from, stored_run};
+// Runs of U32 fields that are judged by rules, and the name before them.
+ghost use Rattle.std.specs.Prelude.{◌≡◌};
+ghost use Rattle.fields.specs.Judged.{given};
+ghost use Rattle.mesh.specs.Run.{ruled_at};
+ghost use Rattle.mesh.specs.Inside.{ended_given, name_end, rule_at, run_into};
 
-use fields::field::{U32Field, u32_at};
+use fields::field::field_at;
 use fields::limits::LARGEST_U32 as ANY;
-use fields::name::{NameField, name_at};
-use fields::numbers::{BAD_NAME, OUT_OF_ORDER, OVER_LIMIT, Refusal, TRUNCATED};
-
-// No rules: such fields are not judged.
-pub(crate) const UNJUDGED: [u32; 0] = [];
+use fields::name::name_size;
+use fields::refusal::{Fault, Refusal};
 
 // What a field may hold: at most `limit` (else 9), and from `least` to `most` (else 11).
-#[derive(Drop)]
+#[derive(Clone, Copy, Debug, PartialEq, Eq)]
 pub struct Rule {
     pub limit: u32,
     pub least: u32,
     pub most: u32,
 }
 
-// A field's value, or why it is refused.
-#[derive(Drop)]
-pub enum Field {
-    Value(u32),
-    Refused(Refusal),
-}
+// The rule of a field that is not judged.
+pub(crate) const UNJUDGED: Rule = Rule {
+    limit: ANY,
+    least: 0,
+    most: ANY,
+};
 
-// Where what was read ends, or why it is refused.
-#[derive(Drop)]
-pub enum Next {
-    At(usize),
-    Refused(Refusal),
+// A value, and where it ends.
+#[derive(Clone, Copy)]
+pub struct Ended<T> {
+    pub value: T,
+    pub next: usize,
 }
 
 // The end of the name at the start of `s`.
-pub(crate) fn name_end(s: &[u8]) -> Next
-    ensures { next_given result ≡ name_end s.now }
+pub(crate) fn name_end(s: &[u8]) -> Result<usize, Refusal>
+    ensures { given result ≡ name_end s.now }
 {
-    match name_at(s, 0) {
-        NameField::Missing => Next::Refused(Refusal {
-            number: TRUNCATED,
-            place: 0,
-        }),
-        NameField::Long => Next::Refused(Refusal {
-            number: BAD_NAME,
-            place: 0,
-        }),
-        NameField::Size(size) => Next::At(size + 2),
-    }
+    let size = name_size(s, 0)?;
+    Ok(size + 2)
 }
 
-// The rule of field i: a row of three numbers. Past the table's end fields are not judged.
-fn rule_at(table: &[u32], i: usize) -> Rule
-    requires { i < 0x1000000 }
-    ensures { result ≡ rule_at table.now i }
+// The rule of field i; past the last rule fields are not judged.
+fn rule_at(rules: &[Rule], i: usize) -> Rule
+    ensures { result ≡ rule_at rules.now i }
 {
-    let row = 3 * i;
-    if row + 2 < table.len() {
-        Rule {
-            limit: table[row],
-            least: table[row + 1],
-            most: table[row + 2],
-        }
-    } else {
-        Rule {
-            limit: ANY,
-            least: 0,
-            most: ANY,
-        }
-    }
+    rules.get(i).copied().unwrap_or(UNJUDGED)
 }
 
 // The field at `at`, judged by a rule.
-fn ruled_at(s: &[u8], at: usize, rule: Rule) -> Field
-    ensures { field_given result ≡ ruled_at rule s.now at }
+fn ruled_at(s: &[u8], at: usize, rule: Rule) -> Result<u32, Refusal>
+    ensures { given result ≡ ruled_at rule s.now at }
 {
-    let U32Field::Value(value) = u32_at(s, at) else {
-        return Field::Refused(Refusal {
-            number: TRUNCATED,
-            place: at,
-        });
+    let Some(value) = field_at::<u32>(s, at) else {
+        return Err(Fault::Truncated.at(at));
     };
     if rule.limit < value {
-        return Field::Refused(Refusal {
-            number: OVER_LIMIT,
-            place: at,
-        });
+        return Err(Fault::OverLimit.at(at));
     }
-    if value < rule.least {
-        return Field::Refused(Refusal {
-            number: OUT_OF_ORDER,
-            place: at,
-        });
+    if value < rule.least || rule.most < value {
+        return Err(Fault::OutOfOrder.at(at));
     }
-    if rule.most < value {
-        return Field::Refused(Refusal {
-            number: OUT_OF_ORDER,
-            place: at,
-        });
-    }
-    Field::Value(value)
+    Ok(value)
 }
 
-// Reads `count` fields from `from` on into `values`, up to the first that is refused.
+// Fills `values` with the fields from `from` on, up to the first that is refused; hands out where they end. Fields past the last rule
+// are not judged.
 pub(crate) fn read_run(
     s: &[u8],
     from: usize,
-    table: &[u32],
-    count: usize,
+    rules: &[Rule],
     values: &mut [u32],
-) -> Next
-    requires { (count ≤ length values.old) × (count < 0x1000000) }
-    ensures { ended_given result values.new ≡ stored_run values.old 0 (from + 4 * count) (run_at (rules_from table.now 0 count) s.now from) }
+) -> Result<usize, Refusal>
+    ensures { ended_given result values.new ≡ run_into values.old rules.now s.now from }
 {
     let mut at = from;
-    let mut i = 0;
-    while i < count {
-        let value = match ruled_at(s, at, rule_at(table, i)) {
-            Field::Value(v) => v,
-            Field::Refused(e) => {
-                return Next::Refused(e);
-            }
-        };
-        values[i] = value;
-        at = at + 4;
-        i = i + 1;
+    for (i, value) in values.iter_mut().enumerate() {
+        *value = ruled_at(s, at, rule_at(rules, i))?;
+        at += 4;
     }
-    Next::At(at)
+    Ok(at)
 }

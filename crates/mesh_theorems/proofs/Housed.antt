@@ -10,12 +10,13 @@ use Rattle.fields.specs.Limits.{largest_count}
 use Rattle.fields.specs.Numbers.{no_room}
 use Rattle.fields.specs.Judged.{done}
 use Rattle.fields.proofs.Judging.{passed, same_done, value_before}
-use Rattle.mesh.specs.Run.{Ended, run_at, unjudged}
+use Rattle.mesh.specs.Run.{run_at, unjudged}
 use Rattle.mesh.specs.Faces.{faces_of, placed_at}
 use Rattle.mesh.specs.Base.{Mesh, base_of, has_room, head_of, mesh_of, pool_words, pools_at, read, sized, table_count, words_in}
 use Rattle.mesh.specs.Declaration.{declaration_of, mesh_name}
 use Rattle.mesh.specs.declared.base.Part as part
 use Rattle.mesh.specs.declared.declaration.Declaration.{Declaration}
+use Rattle.mesh.specs.declared.run.Ended.{Ended}
 use Rattle.mesh.proofs.Rooms.{room_at}
 use Rattle.mesh.proofs.Runs.{run_length}
 use Rattle.mesh_theorems.proofs.Below.{base_faces, below_length, part_before}

@@ -10,9 +10,10 @@ use Rattle.fields.specs.Numbers.{bad_name}
 use Rattle.fields.specs.Judged.{done}
 use Rattle.fields.specs.Name.{name_at, name_part, same}
 use Rattle.fields.proofs.Judging.{passed, same_done, value_before}
-use Rattle.mesh.specs.Run.{Ended, run_at, unjudged, values_of}
+use Rattle.mesh.specs.Run.{run_at, unjudged, values_of}
 use Rattle.mesh.specs.Base.{base_rules, head_of}
 use Rattle.mesh.specs.declared.declaration.Declaration.{Declaration}
+use Rattle.mesh.specs.declared.run.Ended.{Ended}
 use Rattle.mesh.proofs.Runs.{run_limited}
 
 -- Every base count is at most 65,536.

@@ -1,33 +1,29 @@
 -- The exported answer of a declaration: its fields as words of a table, and what a declaration that is read, or refused, comes to.
 use Prim.Native.Nat.{ℕ, zero, suc, ◌+◌, ◌*◌, ◌≤◌, ◌<◌}
-use mathlib.Core.Path.{◌≡◌, ◌∙◌, ap, refl, sym}
+use mathlib.Core.Path.{◌≡◌, ◌∙◌, ap, refl}
 use mathlib.Core.List.{List, [], ◌∷◌}
 use native.Mathlib.Omega.{arith}
 use borrow.Author.Tests.{le-ltb, lt-ltb}
 use lib.ListN.{drop, get_or, length, set}
 use lib.Seq.{sets, sets-eq}
-use Rattle.fields.specs.Numbers.{no_room, truncated}
-use Rattle.fields.specs.Judged.{Judged, done, refused, on_done, number_of}
-use Rattle.fields.specs.Field.{field_at, little_endian}
+use Rattle.fields.specs.Numbers.{no_room}
+use Rattle.fields.specs.Judged.{Judged, refused, on_done, number_of}
+use Rattle.std.specs.Option.{unwrap_or}
+use Rattle.std.proofs.Common.{Option, Some, None}
+use Rattle.fields.specs.Field.{field_at, field_given, little_endian}
 use Rattle.fields.proofs.Judging.{not_done, same_done}
-use Rattle.mesh.specs.Declaration.{declaration_of, declaration_read}
-use Rattle.mesh.specs.declared.declaration.Declaration.{Declaration}
-use Rattle.mesh.specs.declared.declaration.DeclarationRead.{DeclarationRead}
+use Rattle.mesh.specs.Declaration.{declaration_of}
 use Rattle.oysterfold.specs.Declaration.{Fields, declaration_in, declaration_result, field_count, fields_after, fields_in, fields_of, fields_words, name_end, name_offset, result_words, words_at}
-use Rattle.mesh.proofs.Refusals.{Numbered, listed_some}
 use Rattle.oysterfold.proofs.Words.{words_more, words_none}
 
 -- ---- fields as words
 
 -- a field within the bytes is not missing
-module _ (s : List ℕ) (at : ℕ) (within : at + 4 ≤ length s) where
-  pub field_there : {v : ℕ} → field_at 4 s at ≡ done v → v ≡ little_endian 4 s at
-  unfolding field_at
-  field_there e = sym (same_done (rw (le-ltb _ _ within) at e))
-
-  pub field_missing : {C : Type 0} → field_at 4 s at ≡ refused truncated at → C
-  unfolding field_at
-  field_missing e = not_done (sym (rw (le-ltb _ _ within) at e))
+pub field_there : (s : List ℕ) (at : ℕ) → at + 4 ≤ length s → (o : Option ℕ) → field_given (λ value. value) at o ≡ field_at 4 s at
+    → unwrap_or o 0 ≡ little_endian 4 s at
+unfolding field_at
+field_there s at within (Some v) e = same_done (rw (le-ltb _ _ within) at e)
+field_there s at within None e = not_done (rw (le-ltb _ _ within) at e)
 
 words_length : (n : ℕ) (s : List ℕ) (at : ℕ) → length (words_at n s at) ≡ n
 unfolding words_at
@@ -73,15 +69,6 @@ module _ (s table result : List ℕ) (size : ℕ) where
       (refl, (e ∙ (rw none at (sets-eq (fields_of s size) table 0 (omega arith))), rw l f))
 
 -- ---- a declaration that was judged
-
-module _ (r : DeclarationRead) where
-  pub read_by_lem : (j : Judged Declaration) → Numbered j → r ≡ declaration_read j → r.number ≡ 0 → j ≡ done r.declaration
-  read_by_lem (done d) h e z = ap (λ (x : DeclarationRead). done x.declaration) (sym e)
-  read_by_lem (refused n p) h e z = let m : r.number ≡ n = ap (λ (x : DeclarationRead). x.number) e in absurd (listed_some n h (sym m ∙ z))
-
-  pub refused_by : (j : Judged Declaration) → r ≡ declaration_read j → (r.number ≡ 0 → ⊥) → j ≡ refused r.number r.place
-  refused_by (done d) e z = absurd (z (ap (λ (x : DeclarationRead). x.number) e))
-  refused_by (refused n p) e z = ap (λ (x : DeclarationRead). refused x.number x.place) (sym e)
 
 module _ (s table result : List ℕ) where
   abbrev Handed : ℕ → List ℕ → List ℕ → Type 0

@@ -1,5 +1,6 @@
 -- Laws that belong to no one function.
 pub mod Words
+pub mod Lengths
 pub mod Results
 pub mod Answers
 pub mod Stepping

@@ -12,7 +12,8 @@ use Rattle.fields.specs.Judged.{done}
 use Rattle.fields.specs.Field.{field_at}
 use Rattle.fields.specs.Name.{name_at}
 use Rattle.fields.proofs.Judging.{passed, same_done, value_before}
-use Rattle.mesh.specs.Run.{Ended, run_at, unjudged}
+use Rattle.mesh.specs.Run.{run_at, unjudged}
+use Rattle.mesh.specs.declared.run.Ended.{Ended}
 use Rattle.mesh.specs.Shading.{shading_at, shading_rules, shadings_at}
 use Rattle.mesh.specs.Declaration.{closing_rules, declaration_of, opening_rules}
 use Rattle.mesh.specs.declared.shading.Shading.{Shading}

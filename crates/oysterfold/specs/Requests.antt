@@ -1,15 +1,14 @@
 -- What the exported walk hands back (02, Ask 6): 01's number, the tables, the counts, and a result of place and granted steps. "A refused walk
 -- keeps the steps granted before and tells their number": tables, counts and result are those of the walk whatever its number.
-use Rattle.std.specs.Prelude.{◌||◌, List, [], ◌∷◌, ℕ}
+use Rattle.std.specs.Prelude.{List, [], ◌∷◌, ℕ}
 use Rattle.std.proofs.lemmas.List.Edits.{sets}
 use Rattle.fields.specs.Numbers.{no_room}
 use Rattle.fields.specs.Judged.{pick}
-use Rattle.progressive.specs.declared.requests.Progress.{Progress}
 use Rattle.progressive.specs.declared.requests.StepRequest.{StepRequest}
 use Rattle.progressive.specs.Mesh.{Mesh, mesh_of}
 use Rattle.progressive.specs.Requests.{StepWalk, as_told, walked}
 use Rattle.oysterfold.specs.CoderState.{shorter}
-use Rattle.oysterfold.specs.Result.{result_for, result_words, value_told}
+use Rattle.oysterfold.specs.Result.{result_words, value_told}
 use Rattle.oysterfold.specs.Steps.{count_words, counts_in}
 
 -- the number, and what the tables, the counts and the result then hold
@@ -36,20 +35,3 @@ steps_into t shadings requests faces positions counts result =
     pick (shorter result_words result) (walk_handed no_room faces positions counts result)
     (pick (shorter count_words counts) (walk_handed no_room faces positions counts (value_told 0 result))
     (handed_walk (as_told (walked t shadings (mesh_of faces positions (counts_in counts)) requests)) counts result))
-
--- ---- inside the crate
-
--- the walk before its first wish; refused with 12 where something is too short, so that nothing follows
-abbrev pub start_in : List ℕ → List ℕ → Progress
-start_in counts result =
-    pick (shorter result_words result || shorter count_words counts)
-    (record { number = no_room; granted = 0; positions = 0; faces = 0 })
-    (let present = counts_in counts in record { number = 0; granted = 0; positions = present.positions; faces = present.faces })
-
--- the counts and the result after a walk, each where it is long enough; none where the result is not
-abbrev pub counts_told : Progress → List ℕ → List ℕ → List ℕ
-counts_told p counts result =
-    pick (shorter result_words result) counts (pick (shorter count_words counts) counts (sets counts 0 (p.positions ∷ p.faces ∷ [])))
-
-abbrev pub granted_told : Progress → List ℕ → List ℕ
-granted_told p result = result_for result_words (0 ∷ p.granted ∷ []) result

@@ -1,10 +1,10 @@
 -- What the exported steps up and down hand back: 01's number, the tables of faces and positions, and the counts, positions then faces.
-use Rattle.std.specs.Prelude.{ℕ, List, [], ◌∷◌, ltb, get_or, length}
+use Rattle.std.specs.Prelude.{ℕ, List, [], ◌∷◌, ltb, get_or, length, Result, Ok, Err}
 use Rattle.std.proofs.lemmas.List.Edits.{sets}
-use Rattle.fields.specs.Numbers.{no_room}
+use Rattle.fields.specs.Numbers.{no_room, fault_number}
+use Rattle.fields.specs.declared.refusal.Fault.{Fault}
 use Rattle.fields.specs.Judged.{Judged, done, refused, refused_if}
 use Rattle.progressive.specs.declared.counts.Counts.{Counts}
-use Rattle.progressive.specs.declared.counts.Stepped as stepped
 use Rattle.progressive.specs.Mesh.{Mesh, mesh_of}
 
 -- positions, then faces
@@ -33,11 +33,15 @@ abbrev pub handed_by : Judged Mesh → List ℕ → List ℕ → List ℕ → Ha
 handed_by (done m) faces positions counts = handed 0 m.faces m.positions (sets counts 0 (m.position_count ∷ m.face_count ∷ []))
 handed_by (refused n p) faces positions counts = handed n faces positions counts
 
--- the number of an answer, and the counts array after it
-abbrev pub stepped_number : stepped.Stepped → ℕ
-stepped_number (stepped.TheVariants.Done after) = 0
-stepped_number (stepped.TheVariants.Refused e after) = e.number
+-- the counts array with these counts
+abbrev pub counts_put : Counts → List ℕ → List ℕ
+counts_put c counts = sets counts 0 (c.positions ∷ c.faces ∷ [])
 
-abbrev pub counts_after : stepped.Stepped → List ℕ → List ℕ
-counts_after (stepped.TheVariants.Done after) counts = sets counts 0 (after.positions ∷ after.faces ∷ [])
-counts_after (stepped.TheVariants.Refused e after) counts = counts
+-- the number of an answer, and the counts array after it
+abbrev pub stepped_number : Result Counts Fault → ℕ
+stepped_number (Ok after) = 0
+stepped_number (Err fault) = fault_number fault
+
+abbrev pub counts_after : Result Counts Fault → List ℕ → List ℕ
+counts_after (Ok after) counts = counts_put after counts
+counts_after (Err fault) counts = counts

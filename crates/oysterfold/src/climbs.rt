@@ -4,11 +4,11 @@ ghost use Rattle.climb.specs.Climb.{climb_in, table_after, word_count};
 ghost use Rattle.fields.specs.Judged.{number_of};
 ghost use Rattle.oysterfold.specs.Result.{answer_in, result_of};
 
-use crate::result::{RESULT_WORDS, refused, told};
-use climb::{ClimbRead, read_climb};
-use fields::numbers::NO_ROOM;
+use crate::result::{NO_ROOM, RESULT_WORDS, tell};
+use climb::read_climb;
 
 // Reads a climb text into the table of its steps; result: place (a line), number of words.
+// Kept: the export of this name calls it.
 pub fn oysterfold_read_climb(text: &[u8], table: &mut [u32], res: &mut [u64]) -> u32
     ensures value { result ≡ number_of (answer_in res.old (word_count (climb_in text.now table.old))) }
     ensures table_after { table.new ≡ table_after (answer_in res.old (climb_in text.now table.old)) table.old }
@@ -17,8 +17,5 @@ pub fn oysterfold_read_climb(text: &[u8], table: &mut [u32], res: &mut [u64]) ->
     if res.len() < RESULT_WORDS {
         return NO_ROOM;
     }
-    match read_climb(text, table) {
-        ClimbRead::Read(words) => told(res, words as u64),
-        ClimbRead::Refused(e) => refused(res, e),
-    }
+    tell(res, read_climb(text, table))
 }

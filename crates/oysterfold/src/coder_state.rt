@@ -2,7 +2,7 @@
 // written and else 0.
 ghost use Rattle.std.specs.Prelude.{◌≡◌, ◌≤◌, length};
 ghost use Rattle.std.proofs.lemmas.List.Edits.{sets};
-ghost use Rattle.oysterfold.specs.CoderState.{coder_in, coder_length, coder_words, flag_of, limit_in, low_in, writer_in, writer_length, writer_words};
+ghost use Rattle.oysterfold.specs.CoderState.{coder_in, coder_length, coder_words, limit_in, low_in, writer_in, writer_length, writer_words};
 
 use crate::result::put_words;
 use coder::interval::Coder;
@@ -20,26 +20,14 @@ const NO_LIMIT: u32 = 0xFFFFFFFF;
 fn limit_in(word: u64) -> u32
     ensures { result ≡ limit_in word }
 {
-    if word > NO_LIMIT as u64 {
-        return NO_LIMIT;
-    }
-    word as u32
+    u32::try_from(word).unwrap_or(NO_LIMIT)
 }
 
 // The low limit of a writer, whose flag is judged with it.
 fn low_in(low: u32, flag: u64) -> u32
     ensures { result ≡ low_in low flag }
 {
-    if flag > 1 {
-        return NO_LIMIT;
-    }
-    low
-}
-
-fn flag_of(compressed: bool) -> u64
-    ensures { result ≡ flag_of compressed }
-{
-    if compressed { 1 } else { 0 }
+    if flag > 1 { NO_LIMIT } else { low }
 }
 
 pub(crate) fn coder_in(state: &[u64]) -> Coder
@@ -63,9 +51,7 @@ pub(crate) fn writer_in(state: &[u64]) -> Writer
     Writer {
         coder: Coder {
             low: low_in(s.low, flag),
-            high: s.high,
-            pending: s.pending,
-            settled: s.settled,
+            ..s
         },
         compressed: flag == 1,
     }
@@ -75,15 +61,16 @@ pub(crate) fn put_coder(state: &mut [u64], s: Coder)
     requires { coder_length ≤ length state.old }
     ensures { state.new ≡ sets state.old 0 (coder_words s) }
 {
-    let words = [s.low as u64, s.high as u64, s.pending, s.settled];
-    put_words(state, &words);
+    put_words(
+        state,
+        &[u64::from(s.low), u64::from(s.high), s.pending, s.settled],
+    );
 }
 
 pub(crate) fn put_writer(state: &mut [u64], w: Writer)
     requires { writer_length ≤ length state.old }
     ensures { state.new ≡ sets state.old 0 (writer_words w) }
 {
-    let flag = flag_of(w.compressed);
     put_coder(&mut *state, w.coder);
-    state[CODER_WORDS] = flag;
+    state[CODER_WORDS] = u64::from(w.compressed);
 }

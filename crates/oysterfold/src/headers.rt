@@ -3,9 +3,8 @@ ghost use Rattle.std.specs.Prelude.{◌≡◌};
 ghost use Rattle.fields.specs.Judged.{done, number_of};
 ghost use Rattle.oysterfold.specs.Header.{header_in, header_result, header_words};
 
-use crate::result::put_words;
-use blocks::header::{First, FirstBlock, first_block};
-use fields::numbers::NO_ROOM;
+use crate::result::{NO_ROOM, put_words};
+use blocks::header::{First, first_block};
 
 // Place, and the seven values of a header.
 const HEADER_LENGTH: usize = 8;
@@ -17,11 +16,11 @@ fn header_words(first: First) -> [u64; HEADER_LENGTH]
     let header = first.fields;
     [
         0,
-        header.minor_version as u64,
-        header.profile as u64,
-        header.declaration_size as u64,
+        u64::from(header.minor_version),
+        u64::from(header.profile),
+        u64::from(header.declaration_size),
         header.file_size,
-        header.encoding as u64,
+        u64::from(header.encoding),
         header.units,
         first.next as u64,
     ]
@@ -37,15 +36,13 @@ pub fn oysterfold_header(file: &[u8], res: &mut [u64]) -> u32
         return NO_ROOM;
     }
     match first_block(file) {
-        FirstBlock::Found(first) => {
-            let words = header_words(first);
-            put_words(res, &words);
+        Ok(first) => {
+            put_words(res, &header_words(first));
             0
         }
-        FirstBlock::Refused(e) => {
-            let words = [e.place as u64, 0, 0, 0, 0, 0, 0, 0];
-            put_words(res, &words);
-            e.number
+        Err(e) => {
+            put_words(res, &[e.place as u64, 0, 0, 0, 0, 0, 0, 0]);
+            u32::from(e.fault)
         }
     }
 }

@@ -5,10 +5,9 @@ ghost use Rattle.fields.specs.Limits.{largest_file};
 ghost use Rattle.listing.specs.Listing.{listing_of, written};
 ghost use Rattle.oysterfold.specs.Result.{answer_in, result_of};
 
-use crate::result::{RESULT_WORDS, refused, told};
+use crate::result::{NO_ROOM, RESULT_WORDS, tell};
 use fields::limits::LARGEST_FILE;
-use fields::numbers::NO_ROOM;
-use listing::{Listing, list_file};
+use listing::list_file;
 
 // Puts the listing of a file of at most 16 MiB at the start of `text`; a file that is refused is listed too. Result: place, number
 // of bytes.
@@ -20,8 +19,5 @@ pub fn oysterfold_listing(file: &[u8], text: &mut [u8], res: &mut [u64]) -> u32
     if res.len() < RESULT_WORDS {
         return NO_ROOM;
     }
-    match list_file(file, LARGEST_FILE, text) {
-        Listing::Written { bytes } => told(res, bytes as u64),
-        Listing::Refused(e) => refused(res, e),
-    }
+    tell(res, list_file(file, LARGEST_FILE, text))
 }

@@ -3,21 +3,12 @@ ghost use Rattle.std.specs.Prelude.{◌≡◌};
 ghost use Rattle.mesh.specs.Base.{tables, tables_after, mesh_number};
 ghost use Rattle.oysterfold.specs.Mesh.{count_words, mesh_into, mesh_result, no_counts, part_number};
 
-use crate::result::put_words;
-use fields::numbers::NO_ROOM;
-use mesh::base::{MeshCounts, MeshRead, Part, read_mesh};
+use crate::result::{NO_ROOM, put_words};
+use mesh::base::{MeshCounts, Part, read_mesh};
+use mesh::tables::Tables;
 
 // Place, part, and the seven counts.
 const RESULT_WORDS: usize = 9;
-
-fn part_number(part: Part) -> u64
-    ensures { result ≡ part_number part }
-{
-    match part {
-        Part::Declaration => 0,
-        Part::Continuation => 1,
-    }
-}
 
 fn no_counts() -> MeshCounts
     ensures { result ≡ no_counts }
@@ -34,19 +25,19 @@ fn no_counts() -> MeshCounts
 }
 
 // The words of place, part and counts.
-fn words_of(place: u64, part: u64, counts: MeshCounts) -> [u64; RESULT_WORDS]
-    ensures { result ≡ count_words place part counts }
+fn words_of(place: u64, part: Part, counts: MeshCounts) -> [u64; RESULT_WORDS]
+    ensures { result ≡ count_words place (part_number part) counts }
 {
     [
         place,
-        part,
-        counts.faces as u64,
-        counts.positions as u64,
-        counts.normals as u64,
-        counts.diffuse as u64,
-        counts.specular as u64,
-        counts.texture as u64,
-        counts.shadings as u64,
+        part as u64,
+        u64::from(counts.faces),
+        u64::from(counts.positions),
+        u64::from(counts.normals),
+        u64::from(counts.diffuse),
+        u64::from(counts.specular),
+        u64::from(counts.texture),
+        u64::from(counts.shadings),
     ]
 }
 
@@ -70,26 +61,22 @@ pub fn oysterfold_read_mesh(
     if res.len() < RESULT_WORDS {
         return NO_ROOM;
     }
-    let read = read_mesh(
-        declaration,
-        continuation,
+    let tables = Tables {
         faces,
         positions,
         normals,
         diffuse,
         specular,
         texture,
-    );
-    match read {
-        MeshRead::Read(counts) => {
-            let words = words_of(0, 0, counts);
-            put_words(res, &words);
+    };
+    match read_mesh(declaration, continuation, tables) {
+        Ok(counts) => {
+            put_words(res, &words_of(0, Part::Declaration, counts));
             0
         }
-        MeshRead::Refused(part, e) => {
-            let words = words_of(e.place as u64, part_number(part), no_counts());
-            put_words(res, &words);
-            e.number
+        Err(e) => {
+            put_words(res, &words_of(e.refusal.place as u64, e.part, no_counts()));
+            u32::from(e.refusal.fault)
         }
     }
 }

@@ -2,6 +2,7 @@
 ghost use Rattle.std.specs.Prelude.{◌≡◌, ◌||◌, true, ◌≤◌, length, take};
 ghost use Rattle.coder.specs.Histogram.{symbols};
 ghost use Rattle.coder.specs.Interval.{fresh};
+ghost use Rattle.coder.specs.declared.interval.Coder.{Coder as State};
 ghost use Rattle.coder.specs.Reading.{read_given, take_dynamic, take_static, taken_histogram};
 ghost use Rattle.oysterfold.specs.CoderState.{coder_in, coder_length, coder_words, context_short, histogram_into, shorter};
 ghost use Rattle.oysterfold.specs.Fresh.{stored, stored_into};
@@ -9,15 +10,15 @@ ghost use Rattle.oysterfold.specs.Reading.{handed, handed_by, read_into, take_by
 ghost use Rattle.oysterfold.specs.Result.{result_words};
 
 use crate::coder_state::{CODER_WORDS, coder_in, put_coder};
-use crate::histograms::{frequencies_in, put_frequencies};
-use crate::result::{RESULT_WORDS, told, unplaced};
+use crate::result::{NO_ROOM, RESULT_WORDS, tell, unplaced};
 use coder::histogram::SYMBOLS;
 use coder::interval::Coder;
-use coder::read::Read;
+use coder::read::Found;
 use coder::write::Width;
-use fields::numbers::NO_ROOM;
+use fields::refusal::Fault;
 
 // A fresh reader's state.
+// Kept: the export of this name calls it.
 pub fn oysterfold_reader_fresh(state: &mut [u64]) -> u32
     ensures { stored result state.new ≡ stored_into (coder_words fresh) state.old }
 {
@@ -29,15 +30,15 @@ pub fn oysterfold_reader_fresh(state: &mut [u64]) -> u32
 }
 
 // The number of an answer, its value told; where the number is 0 the state after it is stored.
-fn answer(read: Read, state: &mut [u64], res: &mut [u64]) -> u32
+fn answer(read: Result<Found, Fault>, state: &mut [u64], res: &mut [u64]) -> u32
     requires { (coder_length ≤ length state.old) × (result_words ≤ length res.old) }
-    ensures { handed result state.new res.new ≡ handed_by (read_given read) state.old res.old }
+    ensures { (s : State) → handed result state.new res.new ≡ handed_by (read_given s read) state.old res.old }
 {
     match read {
-        Read::Refused(number, _) => unplaced(res, number),
-        Read::Got(value, after) => {
-            put_coder(state, after);
-            told(res, value as u64)
+        Err(fault) => unplaced(res, fault),
+        Ok(found) => {
+            put_coder(state, found.state);
+            tell(res, Ok(found.value as usize))
         }
     }
 }
@@ -50,21 +51,19 @@ pub fn oysterfold_read_static(state: &mut [u64], coded: &[u8], range: u32, res: 
         return NO_ROOM;
     }
     if state.len() < CODER_WORDS {
-        return unplaced(res, NO_ROOM);
+        return unplaced(res, Fault::NoRoom);
     }
     let read = coder_in(state).read_static(coded, range);
     answer(read, state, res)
 }
 
 // A plain value whose bytes are no width is refused as a value in an empty range is.
-fn read_plain(s: Coder, coded: &[u8], bytes: u32) -> Read
-    ensures { read_given result ≡ take_bytes bytes coded.now s }
+fn read_plain(s: Coder, coded: &[u8], bytes: u32) -> Result<Found, Fault>
+    ensures { read_given s result ≡ take_bytes bytes coded.now s }
 {
-    match bytes {
-        1 => s.read_plain(coded, Width::U8),
-        2 => s.read_plain(coded, Width::U16),
-        4 => s.read_plain(coded, Width::U32),
-        _ => s.read_static(coded, 0),
+    match Width::try_from(bytes) {
+        Ok(width) => s.read_plain(coded, width),
+        Err(_) => s.read_static(coded, 0),
     }
 }
 
@@ -76,7 +75,7 @@ pub fn oysterfold_read_plain(state: &mut [u64], coded: &[u8], bytes: u32, res: &
         return NO_ROOM;
     }
     if state.len() < CODER_WORDS {
-        return unplaced(res, NO_ROOM);
+        return unplaced(res, Fault::NoRoom);
     }
     let read = read_plain(coder_in(state), coded, bytes);
     answer(read, state, res)
@@ -96,13 +95,11 @@ pub fn oysterfold_read_dynamic(
         return NO_ROOM;
     }
     if state.len() < CODER_WORDS {
-        return unplaced(res, NO_ROOM);
+        return unplaced(res, Fault::NoRoom);
     }
-    if histogram.len() < SYMBOLS {
-        return unplaced(res, NO_ROOM);
-    }
-    let mut frequencies = frequencies_in(histogram);
-    let read = coder_in(state).read_dynamic(coded, &mut frequencies);
-    put_frequencies(histogram, &frequencies);
+    let Some(frequencies) = histogram.first_chunk_mut::<SYMBOLS>() else {
+        return unplaced(res, Fault::NoRoom);
+    };
+    let read = coder_in(state).read_dynamic(coded, frequencies);
     answer(read, state, res)
 }

@@ -1,6 +1,7 @@
 // Writing coded numbers.
 ghost use Rattle.std.specs.Prelude.{◌≡◌, ◌||◌, List, ℕ, ◌≤◌, length, take};
 ghost use Rattle.coder.specs.Histogram.{symbols};
+ghost use Rattle.coder.specs.declared.write.Writer.{Writer as State};
 ghost use Rattle.coder.specs.Writing.{end, ended_given, fresh_writer, write_dynamic, write_static, written_given, written_histogram};
 ghost use Rattle.oysterfold.specs.CoderState.{context_short, histogram_into, shorter, writer_in, writer_length, writer_words};
 ghost use Rattle.oysterfold.specs.Fresh.{stored, stored_into};
@@ -8,14 +9,14 @@ ghost use Rattle.oysterfold.specs.Result.{result_words, value_told};
 ghost use Rattle.oysterfold.specs.Writing.{end_write, handed, handed_by, used_into, write_bytes, written_into};
 
 use crate::coder_state::{WRITER_WORDS, put_writer, writer_in};
-use crate::histograms::{frequencies_in, put_frequencies};
-use crate::result::{RESULT_WORDS, told, unplaced};
+use crate::result::{NO_ROOM, RESULT_WORDS, tell, unplaced};
 use coder::ending::Ended;
 use coder::histogram::SYMBOLS;
-use coder::write::{Width, Writer, Written};
-use fields::numbers::NO_ROOM;
+use coder::write::{Width, Writer};
+use fields::refusal::Fault;
 
 // A fresh writer's state.
+// Kept: the export of this name calls it.
 pub fn oysterfold_writer_fresh(state: &mut [u64]) -> u32
     ensures { stored result state.new ≡ stored_into (writer_words fresh_writer) state.old }
 {
@@ -27,13 +28,13 @@ pub fn oysterfold_writer_fresh(state: &mut [u64]) -> u32
 }
 
 // The number of an answer; where it is 0 the state after it is stored.
-fn answer(written: Written, state: &mut [u64]) -> u32
+fn answer(written: Result<Writer, Fault>, state: &mut [u64]) -> u32
     requires { writer_length ≤ length state.old }
-    ensures { (bytes : List ℕ) → handed result state.new bytes ≡ handed_by (written_given written bytes) state.old }
+    ensures { (w : State) (bytes : List ℕ) → handed result state.new bytes ≡ handed_by (written_given w written bytes) state.old }
 {
     match written {
-        Written::Refused(number, _) => number,
-        Written::Done(after) => {
+        Err(fault) => u32::from(fault),
+        Ok(after) => {
             put_writer(state, after);
             0
         }
@@ -52,14 +53,12 @@ pub fn oysterfold_write_static(state: &mut [u64], buffer: &mut [u8], range: u32,
 }
 
 // A plain value whose bytes are no width is refused as a value in an empty range is.
-fn written_plain(w: Writer, buffer: &mut [u8], bytes: u32, value: u32) -> Written
-    ensures { written_given result buffer.new ≡ write_bytes bytes buffer.old w value }
+fn written_plain(w: Writer, buffer: &mut [u8], bytes: u32, value: u32) -> Result<Writer, Fault>
+    ensures { written_given w result buffer.new ≡ write_bytes bytes buffer.old w value }
 {
-    match bytes {
-        1 => w.write_plain(buffer, Width::U8, value),
-        2 => w.write_plain(buffer, Width::U16, value),
-        4 => w.write_plain(buffer, Width::U32, value),
-        _ => w.write_static(buffer, 0, value),
+    match Width::try_from(bytes) {
+        Ok(width) => w.write_plain(buffer, width, value),
+        Err(_) => w.write_static(buffer, 0, value),
     }
 }
 
@@ -87,25 +86,24 @@ pub fn oysterfold_write_dynamic(
     if state.len() < WRITER_WORDS {
         return NO_ROOM;
     }
-    if histogram.len() < SYMBOLS {
+    let Some(frequencies) = histogram.first_chunk_mut::<SYMBOLS>() else {
         return NO_ROOM;
-    }
-    let mut frequencies = frequencies_in(histogram);
-    let written = writer_in(state).write_dynamic(buffer, &mut frequencies, value);
-    put_frequencies(histogram, &frequencies);
+    };
+    let written = writer_in(state).write_dynamic(buffer, frequencies, value);
     answer(written, state)
 }
 
 // The number of an end, its bytes used told; where the number is 0 the state after it is stored.
-fn end_answer(ended: Ended, state: &mut [u64], res: &mut [u64]) -> u32
+fn end_answer(ended: Result<Ended, Fault>, state: &mut [u64], res: &mut [u64]) -> u32
     requires { (writer_length ≤ length state.old) × (result_words ≤ length res.old) }
-    ensures { (bytes : List ℕ) → (handed result state.new bytes ≡ handed_by (end_write (ended_given ended bytes)) state.old) × (res.new ≡ value_told (ended_given ended bytes).used res.old) }
+    ensures { (w : State) (bytes : List ℕ) → (handed result state.new bytes ≡ handed_by (end_write (ended_given w ended bytes)) state.old)
+        × (res.new ≡ value_told (ended_given w ended bytes).used res.old) }
 {
     match ended {
-        Ended::Refused(number, _) => unplaced(res, number),
-        Ended::Done(used, after) => {
-            put_writer(state, after);
-            told(res, used as u64)
+        Err(fault) => unplaced(res, fault),
+        Ok(end) => {
+            put_writer(state, end.writer);
+            tell(res, Ok(end.used))
         }
     }
 }
@@ -119,7 +117,7 @@ pub fn oysterfold_write_end(state: &mut [u64], buffer: &mut [u8], res: &mut [u64
         return NO_ROOM;
     }
     if state.len() < WRITER_WORDS {
-        return unplaced(res, NO_ROOM);
+        return unplaced(res, Fault::NoRoom);
     }
     let ended = writer_in(state).finish(buffer);
     end_answer(ended, state, res)

@@ -24,6 +24,7 @@ use Rattle.coder.specs.declared.write.Writer.{Writer}
 use Rattle.coder_theorems.specs.Runs.{Context, Histograms, call_read, call_write, dynamic, plain, static}
 use Rattle.coder_theorems.proofs.Calls.{call_done, call_refused, end_done, end_refused, taken_done, taken_refused}
 use Rattle.coder_theorems.proofs.States.{end_formed, take_dynamic-handed, take_plain-handed, take_static-handed, write_dynamic_formed, write_plain_formed, write_static_formed}
+use Rattle.oysterfold.proofs.Lengths.{taken_length, written_length}
 use Rattle.oysterfold.specs.CoderState.{coder_in, coder_length, coder_words, flag_of, histogram_into, low_in, no_limit, writer_in, writer_length, writer_words}
 use Rattle.oysterfold.specs.Fresh.{stored_into}
 use Rattle.oysterfold.specs.Writing.{end_write, handed_by}
@@ -111,34 +112,6 @@ read_carried state d result hs c long = go t.done refl
     go false e = sym (read_refused d (coder_in state) hs c e)
 
 -- ---- a dynamic context's histogram
-
-raised_length : (h : Histogram) (k : ℕ) → length (raised h k) ≡ length h
-unfolding raised thinned
-raised_length h k = length-set (thinned h) k _ ∙ go (leb largest_total (sum h))
-  where
-    go : (b : Bool) → length (cond b (add_at (map halve h) 0) h) ≡ length h
-    go true = length-set (map halve h) 0 _ ∙ length-map h halve
-    go false = refl
-
-kept_length : (n : ℕ) (later h : Histogram) → length later ≡ length h → length (kept n later h) ≡ length h
-kept_length zero later h e = e
-kept_length (suc n) later h e = refl
-
-written_length : (h : Histogram) (l : List ℕ) (w : Writer) (v : ℕ) → length (written_histogram h l w v) ≡ length h
-unfolding written_histogram
-written_length h l w v =
-    kept_length (dynamic_number h l w v) (dynamic_after h v) h
-    (dynamic_cases (λ (spans : List Span) (after : Histogram). length after ≡ length h) h v
-    (raised_length (raised h 0) (suc v) ∙ raised_length h 0) (λ some. raised_length h (suc v)))
-
-taken_length : (h : Histogram) (d : List ℕ) (s : Coder) → length (taken_histogram h d s) ≡ length h
-unfolding taken_histogram read_after symbol_after
-taken_length h d s =
-    kept_length (take_number true (histogram_formed h) d s (read_dynamic h (bit_at d) s)) (read_after h (bit_at d) s) h (go (next_symbol h (bit_at d) s))
-  where
-    go : (k : ℕ) → length (symbol_after h k (read_dynamic h (bit_at d) s).value) ≡ length h
-    go zero = raised_length (raised h 0) _ ∙ raised_length h 0
-    go (suc k) = raised_length h (suc k)
 
 module _ (histogram : List ℕ) (long : symbols ≤ length histogram) where
   into_carried : (frequencies : List ℕ) → length frequencies ≡ length (take symbols histogram)

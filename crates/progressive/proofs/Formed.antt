@@ -1,15 +1,19 @@
 -- What the tests of a step table's form tell, as facts, and the bounds that follow for every step's place. Each fact is a conjunct of the test.
-use Rattle.std.proofs.Common.{◌≡◌, ℕ, zero, suc, ◌+◌, ◌*◌, ◌<◌, ◌≤◌, Bool, true, false, ◌&&◌, eqb, List, length, sym, refl, ap, ◌∙◌, add-one, arith, eqb-true, le-leb, leb-true}
+use Rattle.std.proofs.Common.{◌≡◌, ℕ, zero, suc, ◌+◌, ◌*◌, ◌<◌, ◌≤◌, Bool, true, false, ◌&&◌, eqb, List, length, sym, refl, ap, ◌∙◌, add-one, arith, eqb-true, leb-true}
 use Rattle.fields.specs.All.{all}
 use Rattle.fields.specs.Limits.{largest_count, most_moves, most_new_faces, most_steps}
 use Rattle.fields.proofs.All.{all_at, all_fails, all_more}
-use Rattle.progressive.specs.StepTable.{base_faces, base_positions, corner_formed, faces_before, head_words, move_count, move_words, new_face_count, new_face_words, next_step, step_count, step_formed, step_formed_at, step_offset, step_words, well_formed}
+use Rattle.progressive.specs.StepTable.{base_faces, base_positions, corner_formed, faces_before, head_words, move_count, new_face_at, new_face_count, new_face_words, next_step, step_count, step_formed, step_formed_at, step_offset, step_words, well_formed}
 use Rattle.progressive.proofs.Indexed.{and_left, and_right}
 
 -- a test that would be absurd if it passed has failed
 pub test_failed : (b : Bool) → (b ≡ true → ⊥) → false ≡ b
 test_failed true h = absurd (h refl)
 test_failed false h = refl
+
+-- where new face j is described, as the code has it
+pub face_place : (t : List ℕ) (o j : ℕ) {first : ℕ} → first ≡ new_face_at t o 0 → first + new_face_words * j ≡ new_face_at t o j
+face_place t o j e = omega (arith, e)
 
 pub record Formed (t : List ℕ) (o : ℕ) : Type 0 where
   pub head : o + step_words ≤ length t
@@ -27,13 +31,6 @@ formed t o e = record {
   body = leb-true _ _ (search (and_left, and_right));
   corners = search (and_left, and_right);
 }
-
--- the other tests passed: the corners decide
-pub formed_by_corners : (t : List ℕ) (o : ℕ) {m n : ℕ} {b : Bool} → m ≡ move_count t o → n ≡ new_face_count t o
-    → o + step_words ≤ length t → m ≤ most_moves → n ≤ most_new_faces → o + step_words + move_words * m + new_face_words * n ≤ length t → b ≡ all (corner_formed t o) m → b ≡ step_formed t o
-unfolding step_formed
-formed_by_corners t o {m} {n} em en h hm hn hb e =
-    e ∙ rw (em, le-leb _ _ h, ← en, le-leb n most_new_faces hn, ← em, le-leb m most_moves hm, le-leb _ _ hb)
 
 pub record FormedTable (t : List ℕ) : Type 0 where
   pub long : head_words ≤ length t
@@ -54,13 +51,6 @@ formed_table t e = record {
   end = eqb-true _ _ (search (and_left, and_right));
 }
 
--- the other tests passed: the steps decide
-pub formed_by_steps : (t : List ℕ) {p f n : ℕ} {b : Bool} → p ≡ base_positions t → f ≡ base_faces t → n ≡ step_count t
-    → head_words ≤ length t → p ≤ largest_count → f ≤ largest_count → n ≤ most_steps → b ≡ all (step_formed_at t) n && eqb (step_offset t n) (length t) → b ≡ well_formed t
-unfolding well_formed
-formed_by_steps t {p} {f} {n} ep ef en h hp hf hn e =
-    e ∙ rw (← ep, ← ef, ← en, le-leb head_words _ h, le-leb p _ hp, le-leb f _ hf, le-leb n _ hn)
-
 -- ---- the first n steps are formed
 module _ (t : List ℕ) (n : ℕ) (e : all (step_formed_at t) n ≡ true) where
   step_of : (k : ℕ) → k < n → Formed t (step_offset t k)
@@ -75,12 +65,6 @@ module _ (t : List ℕ) (n : ℕ) (e : all (step_formed_at t) n ≡ true) where
   unfolding faces_before
   faces_within zero h = omega arith
   faces_within (suc k) h = omega (arith, faces_within k (omega arith), (step_of k h).faces)
-
-  -- a step has at most so many words
-  offset_short : (k : ℕ) → k ≤ n → step_offset t k ≤ head_words + (step_words + move_words * most_moves + new_face_words * most_new_faces) * k
-  unfolding step_offset
-  offset_short zero h = omega arith
-  offset_short (suc k) h = omega (arith, offset_short k (omega arith), (step_of k h).moves, (step_of k h).faces)
 
 pub formed_at : (t : List ℕ) (k : ℕ) → well_formed t ≡ true → k < step_count t → step_formed t (step_offset t k) ≡ true
 formed_at t k e h = all_at (step_formed_at t) (step_count t) k (formed_table t e).steps h
@@ -98,9 +82,6 @@ unfolding step_offset faces_before
 walk_starts t steps h e = record { so_far = omega arith; at = refl; counted = e; within = h; passed = refl }
 
 module _ (t : List ℕ) (steps : ℕ) {step faces k : ℕ} (w : Walked t steps step faces k) where
-  pub walk_short : step ≤ head_words + (step_words + move_words * most_moves + new_face_words * most_new_faces) * k
-  walk_short = rw w.at (offset_short t k w.passed k (omega arith))
-
   pub walk_few : faces ≤ base_faces t + most_new_faces * k
   walk_few = rw w.counted (faces_within t k w.passed k (omega arith))
 

@@ -1,12 +1,17 @@
 -- Laws of `writes` and `shows`: stores at distinct indices can be read back, leave the rest as it was and are undone by the stores of what
 -- stood there.
-use Rattle.std.proofs.Common.{◌≡◌, ℕ, zero, suc, ◌+◌, ◌-◌, ◌<◌, ◌≤◌, Bool, true, false, ◌&&◌, eqb, ◌≢◌, List, length, get_or, set, subst, sym, refl, ap, ◌∙◌, ⊎_elim, le_of_suc-le-suc, not-suc-le-zero, eq-or-lt_of_le, add-one, arith, length-set, get_or-set_other, get_or-set_same, set-set, eq-eqb, ne_eqb, eqb-true}
+use Rattle.std.proofs.Common.{◌≡◌, ℕ, zero, suc, ◌+◌, ◌-◌, ◌<◌, ◌≤◌, Bool, true, false, ◌&&◌, eqb, ◌≢◌, List, length, get_or, set, subst, sym, refl, ap, ◌∙◌, ⊎_elim, le_of_suc-le-suc, not-suc-le-zero, eq-or-lt_of_le, add-one, arith, length-set, length-drop, length-take, length-take-le, get_or-drop, get_or-take, drop, take, replicate, get_or-set_other, get_or-set_same, set-set, eq-eqb, ne_eqb, eqb-true}
 use mathlib.Core.Bool.{and-false, and-true}
 use native.Mathlib.Numerals.{unary_clauses}
 use lib.Seq.{set-get_or, set_comm}
 use Rattle.fields.specs.Judged.{pick}
-use Rattle.fields.proofs.All.{all_fails, all_more, all_true}
-use Rattle.progressive.specs.Indexed.{from, shows, writes}
+use Rattle.fields.proofs.All.{all_true}
+use borrow.Rule.Slice.PartMut.{put_mid}
+use Rattle.std.proofs.Math.Seq.{paste}
+use Rattle.std.proofs.lemmas.List.Edits.{fill_from_more, paste_none}
+use Rattle.std.proofs.lemmas.List.{length-replicate}
+use Rattle.std.proofs.lemmas.Slice.{put_mid-paste}
+use Rattle.progressive.specs.Indexed.{always, from, shows, writes}
 
 pub and_left : (a b : Bool) → a && b ≡ true → a ≡ true
 and_left true b e = refl
@@ -122,21 +127,6 @@ module _ {ix val : ℕ → ℕ} {l cur : List ℕ} {i : ℕ} (w : Written ix val
   pub written_done : {n : ℕ} → i ≤ n → n ≤ i → cur ≡ writes ix val l n
   written_done {n} a b = let q : i ≡ n = omega arith in rw q at w.is
 
--- ---- a loop that compares: x is what stands at the index k of turn i, v what should
-module _ (ix val : ℕ → ℕ) (l : List ℕ) (i : ℕ) {k x v : ℕ} (at : k ≡ ix i) (read : x ≡ get_or l k 0) (want : v ≡ val i) where
-  pub show_more : shows ix val l i ≡ true → x ≡ v → shows ix val l (i + 1) ≡ true
-  show_more e same = all_more (λ j. eqb (get_or l (ix j) 0) (val j)) i e (eq-eqb (get_or l (ix i) 0) (val i) (rw (← at, ← want, ← read) same))
-
-  pub show_fails : (n : ℕ) → i < n → (x ≡ v → ⊥) → false ≡ shows ix val l n
-  show_fails n b differ = sym (all_fails (λ j. eqb (get_or l (ix j) 0) (val j)) n i b (ne_eqb (get_or l (ix i) 0) (val i) (rw (← at, ← want, ← read) differ)))
-
--- the end of such a loop, whatever its answer b is; and where all were shown
-pub look_done : (ix val : ℕ → ℕ) (l : List ℕ) (n i : ℕ) {b : Bool} → i ≤ n → n ≤ i → b ≡ shows ix val l i → b ≡ shows ix val l n
-look_done ix val l n i a h e = let q : i ≡ n = omega arith in rw q at e
-
-pub show_done : (ix val : ℕ → ℕ) (l : List ℕ) (n i : ℕ) → i ≤ n → n ≤ i → shows ix val l i ≡ true → true ≡ shows ix val l n
-show_done ix val l n i a b e = look_done ix val l n i a b (sym e)
-
 -- ---- a loop that looks at every index: b is its answer so far
 module _ (ix val : ℕ → ℕ) (l : List ℕ) (i : ℕ) {b : Bool} (so_far : b ≡ shows ix val l i) where
   pub still_shown : get_or l (ix i) 0 ≡ val i → b ≡ shows ix val l (i + 1)
@@ -173,22 +163,30 @@ shows_parts i val first second third l w a b c =
     shows_on i val third l (1 + w + w) w c
     ∙ rw (shows_on i val second l (1 + w) w b, shows_on i val first l 1 w a, start) (and_assoc (x && y) z last ∙ and_assoc x y (z && last))
 
--- what is not shown of some numbers is not shown of more
-pub shows_longer : (at : ℕ) (val : ℕ → ℕ) (l : List ℕ) (m n : ℕ) → m ≤ n → shows (from at) val l m ≡ false → false ≡ shows (from at) val l n
-shows_longer at val l m n h e =
-    let rest : m + (n - m) ≡ n = omega arith in
-    rw (← rest, shows_on at val (λ q. val (m + q)) l m (n - m) (λ q b. refl), e)
-
--- ---- code that stops at the first test that fails: b is what the code's test answered, x the test's definition
-pub first_failed : {b x : Bool} (y : Bool) → b ≡ x → b ≡ false → false ≡ x && y
-first_failed y e f = rw (← e, f)
-
-pub first_passed : {b x v y : Bool} → b ≡ x → b ≡ true → v ≡ y → v ≡ x && y
-first_passed e f g = rw (← e, f) g
-
--- the same where the first test compares two numbers
-pub first_differs : {x v : ℕ} (y : Bool) → (x ≡ v → ⊥) → false ≡ eqb x v && y
-first_differs {x} {v} y h = rw (ne_eqb x v h)
-
+-- a first test that passed, where it compares two numbers
 pub first-same : {x v : ℕ} {b y : Bool} → x ≡ v → b ≡ y → b ≡ eqb x v && y
 first-same {x} {v} h e = rw (eq-eqb x v h) e
+
+-- ---- a part that is filled with one value
+
+pasted : (l : List ℕ) (at v n : ℕ) → at + n ≤ length l → writes (from at) (always v) l n ≡ paste l at (replicate n v) n
+pasted l at v zero h = paste_none l at (replicate 0 v)
+pasted l at v (suc n) h = rw (pasted l at v n (omega arith)) (rw (add-one n) at (fill_from_more l at n v (omega arith)))
+
+-- the part `l[at..at + n]`
+pub part_long : (l : List ℕ) (at n : ℕ) → at + n ≤ length l → length (take (at + n - at) (drop at l)) ≡ n
+part_long l at n h =
+    let count : at + n - at ≡ n = omega arith in
+    let rest : n ≤ length (drop at l) = omega (arith, length-drop at l) in
+    rw count (length-take-le n (drop at l) rest)
+
+pub part_at : (l : List ℕ) (at n i : ℕ) → i < length (take (at + n - at) (drop at l)) → get_or (take (at + n - at) (drop at l)) i 0 ≡ get_or l (at + i) 0
+part_at l at n i h =
+    let inside : i < at + n - at = omega (arith, length-take (at + n - at) (drop at l)) in
+    get_or-take (at + n - at) (drop at l) i 0 inside ∙ get_or-drop at l i 0
+
+pub filled_part : (l : List ℕ) (at v n : ℕ) {part : List ℕ} → at + n ≤ length l → part ≡ replicate (length (take (at + n - at) (drop at l))) v
+    → put_mid at (at + n - at) l part ≡ writes (from at) (always v) l n
+filled_part l at v n h e =
+    let count : at + n - at ≡ n = omega arith in
+    put_mid-paste at (at + n - at) l _ (replicate n v) n (rw (part_long l at n h) at e) (sym count) (sym (length-replicate n v)) ∙ sym (pasted l at v n h)

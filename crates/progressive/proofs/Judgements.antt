@@ -1,50 +1,28 @@
 -- Laws of a whole call, over plain values: the tests in the code's order, what a granted step's writes need, and the mesh that they make.
-use Rattle.std.proofs.Common.{◌≡◌, ℕ, ◌+◌, ◌-◌, ◌*◌, Bool, true, false, not, ◌&&◌, List, length, sym, ◌∙◌, arith, eq-eqb, ne_eqb}
+use Rattle.std.proofs.Common.{◌≡◌, ℕ, ◌-◌, ◌*◌, true, false, List, length, sym, ◌∙◌, arith, eq-eqb, ne_eqb}
 use borrow.Author.Tests.{not-false}
 use Rattle.fields.specs.All.{all}
-use Rattle.fields.specs.Numbers.{no_room, no_step, not_allowed}
-use Rattle.fields.specs.Judged.{Judged, done, refused, refused_if}
-use Rattle.fields.proofs.Judging.{passed, refusal_before, told}
+use Rattle.fields.specs.Numbers.{bad_steps, no_room, no_step, not_allowed}
+use Rattle.fields.specs.Judged.{Judged, done, refused}
+use Rattle.fields.proofs.Judging.{passed, refusal_before}
 use Rattle.mesh.specs.Base.{position_words}
 use Rattle.progressive.specs.declared.counts.Counts.{Counts}
-use Rattle.progressive.specs.declared.counts.Stepped.{Stepped}
 use Rattle.progressive.specs.declared.levels.Place.{Place}
-use Rattle.progressive.specs.declared.refine.Verdict as verdict
+use Rattle.progressive.specs.declared.refine.Direction.{Direction}
+use Rattle.progressive.specs.declared.refine.Direction.TheVariants as direction
+use Rattle.progressive.specs.Requests.{asked_on}
 use Rattle.progressive.specs.Indexed.{always, from, writes}
-use Rattle.progressive.specs.StepTable.{coordinate, move_count, new_face_count, step_count}
+use Rattle.progressive.specs.StepTable.{coordinate, move_count, new_face_count, step_count, well_formed}
 use Rattle.progressive.specs.Mesh.{Mesh, fits, mesh_of}
 use Rattle.progressive.specs.Rules.{allowed_on, move_numbers, numbers_allowed}
 use Rattle.progressive.specs.Laying.{laid, laid_faces, laid_positions, undone, undone_faces, undone_positions}
-use Rattle.progressive.specs.Steps.{coarsened, coarsened_by, granted, level_of, refined, refined_by, reply, reply_of}
-use Rattle.progressive.specs.Inside.{FacesStep, StepBetween, place_at, place_of, refusal_of, verdict_given}
+use Rattle.progressive.specs.Steps.{coarsened, coarsened_by, granted, level_of, refined, refined_by, reply}
+use Rattle.progressive.specs.Inside.{FacesStep, StepBetween, ask_of, place_at, place_of}
 use Rattle.progressive.proofs.Indexed.{and_left, and_right}
 use Rattle.progressive.proofs.Rooms.{Fitting, fitting}
 use Rattle.progressive.proofs.Reaching.{AtLevel}
 
--- a test that failed, and one that was passed: b is what the code's test answered, x the test's definition
-pub judged_refused : {A : Type 0} {b x : Bool} (n : ℕ) (later : Judged A) → b ≡ x → b ≡ false → refused n 0 ≡ refused_if (not x) n 0 later
-judged_refused n later e f = rw (← e, f)
-
-pub judged_passed : {A : Type 0} {b x : Bool} (n : ℕ) {j later : Judged A} → b ≡ x → b ≡ true → j ≡ later → j ≡ refused_if (not x) n 0 later
-judged_passed n e f g = rw (← e, f) g
-
--- the counts after a step up, as the code has them
-pub fits_above : {t : List ℕ} {o : ℕ} {lower higher : Counts} (s : StepBetween t o lower higher) (a b : ℕ) {v : Bool}
-    → v ≡ fits a b lower.faces lower.positions && fits a b higher.faces higher.positions
-    → v ≡ fits a b lower.faces lower.positions && fits a b (lower.faces + new_face_count t o) (lower.positions + 1)
-fits_above s a b e = rw (← s.faces, ← s.positions) e
-
 -- ---- the step at an offset
-
--- a refusal leaves the mesh
-pub denies : (v : verdict.Verdict) (made : Mesh) {j : Judged Mesh} {n : ℕ} {r : Stepped} (faces positions : List ℕ) (counts : Counts)
-    → verdict_given v made ≡ j → v ≡ verdict.TheVariants.Refused n → r ≡ refusal_of n counts
-    → reply_of r faces positions ≡ reply j (mesh_of faces positions counts)
-denies v made faces positions counts e f g = rw (g, told (λ w. verdict_given w made) e f)
-
--- a step that was granted was judged to make the mesh
-pub made_by : (v : verdict.Verdict) (made : Mesh) {j : Judged Mesh} → verdict_given v made ≡ j → v ≡ verdict.TheVariants.Granted → j ≡ done made
-made_by v made e f = told (λ w. verdict_given w made) e f
 
 pub grants : {j : Judged Mesh} {made : Mesh} {faces positions : List ℕ} {counts : Counts} (m : Mesh) → j ≡ done made → mesh_of faces positions counts ≡ made
     → granted (mesh_of faces positions counts) ≡ reply j m
@@ -106,10 +84,6 @@ module _ (t : List ℕ) (o shadings : ℕ) (faces positions : List ℕ) (present
 
 -- ---- the whole call
 
-pub refused_with : {j : Judged Mesh} {n : ℕ} {r : Stepped} (faces positions : List ℕ) (counts : Counts) → j ≡ refused n 0 → r ≡ refusal_of n counts
-    → reply_of r faces positions ≡ reply j (mesh_of faces positions counts)
-refused_with faces positions counts e f = rw (e, f)
-
 pub reply_by : {j j' : Judged Mesh} (m : Mesh) → j ≡ j' → reply j m ≡ reply j' m
 reply_by m e = rw e
 
@@ -141,3 +115,13 @@ module _ (t : List ℕ) (shadings : ℕ) (m : Mesh) {place : Place} (l : AtLevel
       → coarsened t shadings m ≡ coarsened_by t shadings place.last f r m
   unfolding coarsened
   coarsened_last h e g = rw (l.judged, ne_eqb place.level 0 h, e, g, l.last_at)
+
+-- a list that is refused, or counts that are those of no level: either way
+module _ (t : List ℕ) (shadings : ℕ) (m : Mesh) where
+  pub not_asked : {n : ℕ} → refused n 0 ≡ place_of t m.face_count m.position_count → (way : Direction) → asked_on t shadings m (ask_of way) ≡ refused n 0
+  not_asked e direction.Up = not_refined t shadings m e
+  not_asked e direction.Down = not_coarsened t shadings m e
+
+  pub unformed : well_formed t ≡ false → (way : Direction) → asked_on t shadings m (ask_of way) ≡ refused bad_steps 0
+  unfolding level_of
+  unformed e way = not_asked (rw e) way

@@ -1,20 +1,16 @@
 -- Laws of what a step shows and writes, over plain values: what the functions that compare and store cite. Each unfolds one definition.
-use Rattle.std.proofs.Common.{◌≡◌, ℕ, zero, suc, ◌+◌, ◌-◌, ◌*◌, ◌/◌, ◌%◌, ◌<◌, ◌≤◌, Bool, true, false, ◌&&◌, eqb, List, get_or, set, sym, refl, ◌∙◌, arith, ne_eqb}
-use mathlib.Core.Bool.{and-false}
+use Rattle.std.proofs.Common.{◌≡◌, ℕ, zero, suc, ◌+◌, ◌-◌, ◌*◌, ◌/◌, ◌%◌, ◌<◌, ◌≤◌, ◌&&◌, eqb, List, get_or, set, sym, refl, ◌∙◌, arith, ne_eqb}
 use native.Mathlib.Numerals.{unary_clauses}
+use Rattle.fields.specs.All.{all}
 use Rattle.mesh.specs.Corners.{absent, corner_fields, face_words}
-use Rattle.mesh.specs.Base.{position_words}
 use Rattle.progressive.specs.Indexed.{always, from, shows, writes}
-use Rattle.progressive.specs.StepTable.{coordinate, move_corner, move_count, move_face, move_words, new_face_at, new_face_count, new_face_words, split_of, step_words}
+use Rattle.progressive.specs.StepTable.{move_count, new_face_at, new_face_count, new_face_words, split_of}
 use Rattle.progressive.specs.Rules.{corner_index}
-use Rattle.progressive.specs.Laying.{clear_after, laid_faces, new_face_field, new_face_number, shows_step, undone_faces}
+use Rattle.progressive.specs.Laying.{laid_faces, new_face_field, new_face_number, undone_faces}
 use Rattle.progressive.specs.Inside.{FacesStep, corner_field, corner_shown, record_shown, with_record}
-use Rattle.progressive.proofs.Indexed.{Written, length_writes, shows_longer, shows_on, shows_parts, values_with, writes_on, writes_with}
+use Rattle.progressive.proofs.Indexed.{Written, length_writes, shows_on, shows_parts, values_with, writes_on, writes_with}
 use Rattle.progressive.proofs.Corners.{corner_below}
-
-pub corner-index : (t : List ℕ) (o i : ℕ) {face corner : ℕ} → face ≡ move_face t o i → corner ≡ move_corner t o i → face_words * face + 1 + corner_fields * corner ≡ corner_index t o i
-unfolding corner_index
-corner-index t o i f c = rw (f, c)
+use Rattle.progressive.proofs.Formed.{face_place}
 
 -- a field of a new record that is none of the four given ones
 field_absent : (t : List ℕ) (at q : ℕ) → (q ≡ 0 → ⊥) → (q ≡ 1 → ⊥) → (q ≡ 1 + corner_fields → ⊥) → (q ≡ 1 + 2 * corner_fields → ⊥) → absent ≡ new_face_field t at q
@@ -58,14 +54,14 @@ unfolding with_record
 record_written t at faces i e = rw e (fields_given t at i face_words faces (omega arith))
 
 -- the records of the new faces before face j, then its own
-pub records_written : (t : List ℕ) (o at j : ℕ) {l cur after : List ℕ} {m : ℕ} → Written (from at) (new_face_number t o) l cur (face_words * j) → m ≡ move_count t o
-    → after ≡ with_record t (o + step_words + move_words * m + new_face_words * j) cur (at + face_words * j) → Written (from at) (new_face_number t o) l after (face_words * (j + 1))
+pub records_written : (t : List ℕ) (o at j : ℕ) {l cur after : List ℕ} {first : ℕ} → Written (from at) (new_face_number t o) l cur (face_words * j) → first ≡ new_face_at t o 0
+    → after ≡ with_record t (first + new_face_words * j) cur (at + face_words * j) → Written (from at) (new_face_number t o) l after (face_words * (j + 1))
 unfolding with_record
 records_written t o at j {l} {cur} {after} w em e =
     let start = at + face_words * j in
     let fields = new_face_field t (new_face_at t o j) in
     let more : face_words * j + face_words ≡ face_words * (j + 1) = omega arith in
-    let now-is : after ≡ writes (from start) fields cur face_words = rw (← em) e in
+    let now-is : after ≡ writes (from start) fields cur face_words = rw (← face_place t o j em) e in
     record {
       is = now-is ∙ rw (w.is, writes_on at (new_face_number t o) fields l (face_words * j) face_words (number_of_face t o j), more);
       long = rw (now-is, length_writes (from start) fields cur face_words) w.long;
@@ -97,34 +93,15 @@ record_parts t at faces i =
     (λ q h. corner_value t at 1 (1 + corner_fields) q (omega arith) refl h)
     (λ q h. corner_value t at 2 (1 + 2 * corner_fields) q (omega arith) refl h)
 
-module _ (t : List ℕ) (o at : ℕ) (faces : List ℕ) (j : ℕ) {m : ℕ} {b : Bool} (em : m ≡ move_count t o)
-    (e : b ≡ record_shown t (o + step_words + move_words * m + new_face_words * j) faces (at + face_words * j)) where
-  up_to_face : shows (from at) (new_face_number t o) faces (face_words * (j + 1)) ≡ (shows (from at) (new_face_number t o) faces (face_words * j) && b)
-  unfolding record_shown
-  up_to_face =
-      let more : face_words * j + face_words ≡ face_words * (j + 1) = omega arith in
-      let is : b ≡ shows (from (at + face_words * j)) (new_face_field t (new_face_at t o j)) faces face_words = rw (← em) e in
-      rw (← more, is) (shows_on at (new_face_number t o) (new_face_field t (new_face_at t o j)) faces (face_words * j) face_words (number_of_face t o j))
-
-  pub face_shown : shows (from at) (new_face_number t o) faces (face_words * j) ≡ true → b ≡ true → shows (from at) (new_face_number t o) faces (face_words * (j + 1)) ≡ true
-  face_shown h d = rw (up_to_face, h) d
-
-  pub face_not_shown : (n : ℕ) → j < n → b ≡ false → false ≡ shows (from at) (new_face_number t o) faces (face_words * n)
-  face_not_shown n h d = shows_longer at (new_face_number t o) faces (face_words * (j + 1)) (face_words * n) (omega arith) (rw (up_to_face, d, and-false))
-
-module _ (t : List ℕ) (o : ℕ) (faces positions : List ℕ) (f r : ℕ) {a : Bool} {m : ℕ} (em : m ≡ move_count t o) (corners : a ≡ shows (corner_index t o) (always r) faces m) where
-  pub corners_not_shown : a ≡ false → false ≡ shows_step t o faces positions f r
-  unfolding shows_step
-  corners_not_shown h = rw (← em, ← corners, h)
-
-  module _ (ha : a ≡ true) {b : Bool} {n : ℕ} (en : n ≡ new_face_count t o) (records : b ≡ shows (from (face_words * f)) (new_face_number t o) faces (face_words * n)) where
-    pub records_not_shown : b ≡ false → false ≡ shows_step t o faces positions f r
-    unfolding shows_step
-    records_not_shown h = rw (← em, ← corners, ha, ← en, ← records, h)
-
-    pub shown_by_coordinates : b ≡ true → {v : Bool} → v ≡ shows (from (position_words * r)) (coordinate t o) positions position_words → v ≡ shows_step t o faces positions f r
-    unfolding shows_step
-    shown_by_coordinates h e = rw (← em, ← corners, ha, ← en, ← records, h) e
+-- the records of the first n new faces, one after the other
+pub records_shown : (t : List ℕ) (o at : ℕ) (faces : List ℕ) (n : ℕ) {first : ℕ} → first ≡ new_face_at t o 0
+    → all (λ j. record_shown t (first + new_face_words * j) faces (at + face_words * j)) n ≡ shows (from at) (new_face_number t o) faces (face_words * n)
+unfolding record_shown
+records_shown t o at faces zero e = refl
+records_shown t o at faces (suc n) e =
+    let more : face_words * n + face_words ≡ face_words * suc n = omega arith in
+    rw (records_shown t o at faces n e, face_place t o n e, ← more)
+    (sym (shows_on at (new_face_number t o) (new_face_field t (new_face_at t o n)) faces (face_words * n) face_words (number_of_face t o n)))
 
 -- ---- the writes to the faces table, as the code makes them
 
@@ -140,7 +117,3 @@ undone_faces_lem t o faces f es em en a b = rw (← es, ← em, ← en, ← a) b
 
 pub corners_inside : {t : List ℕ} {o room f r m : ℕ} → FacesStep t o room f r → m ≡ move_count t o → (i : ℕ) → i < m → corner_index t o i < room
 corners_inside {t} {o} {room} {f} s em i h = omega (arith, s.room, corner_below t o f s.formed s.moves i (rw em at h))
-
-pub clear_count : (t : List ℕ) (o : ℕ) (faces positions : List ℕ) (f r : ℕ) {n : ℕ} {v : Bool} → n ≡ new_face_count t o → v ≡ clear_after faces positions n f r
-    → v ≡ clear_after faces positions (new_face_count t o) f r
-clear_count t o faces positions f r en e = rw (← en) e

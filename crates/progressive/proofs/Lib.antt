@@ -9,3 +9,4 @@ pub mod Allowing
 pub mod Laying
 pub mod Judgements
 pub mod Walking
+pub mod Ranges

@@ -1,24 +1,21 @@
 -- The walk to a level, and what the present counts tell of it: a step's turn is a clause of `step_offset` and `faces_before`.
-use Rattle.std.proofs.Common.{◌≡◌, ℕ, zero, suc, ◌+◌, ◌-◌, ◌*◌, ◌<◌, ◌≤◌, Bool, true, false, not, List, length, sym, refl, ap, ◌∙◌, add-one, arith, eq-eqb, eqb-true, le-leb, leb-true}
+use Rattle.std.proofs.Common.{◌≡◌, ℕ, zero, suc, ◌+◌, ◌-◌, ◌*◌, ◌<◌, ◌≤◌, true, not, List, length, sym, refl, ap, ◌∙◌, add-one, arith, eq-eqb, eqb-true, le-leb, leb-true}
 use borrow.Author.Tests.{not-false}
 use Rattle.fields.specs.Limits.{largest_count, most_new_faces, most_steps}
 use Rattle.fields.specs.Numbers.{bad_steps, counts_disagree}
 use Rattle.fields.specs.Judged.{done, refused}
 use Rattle.fields.proofs.Judging.{passed, same_done, value_before}
 use Rattle.progressive.specs.declared.levels.Place.{Place}
-use Rattle.progressive.specs.declared.levels.StepSpot.{StepSpot}
+use Rattle.progressive.specs.declared.form.StepSpot.{StepSpot}
 use Rattle.progressive.specs.declared.levels.Walked.{Walked}
-use Rattle.progressive.specs.StepTable.{base_faces, base_positions, faces_before, head_words, new_face_count, next_step, step_count, step_formed, step_offset, well_formed}
+use Rattle.progressive.specs.StepTable.{base_faces, base_positions, faces_before, new_face_count, next_step, step_count, step_formed, step_offset, well_formed}
 use Rattle.progressive.specs.Steps.{counts_agree, level_of}
-use Rattle.progressive.specs.Inside.{Arrived, AtStep, place_at, place_of}
+use Rattle.progressive.specs.Marks.{AtStep}
+use Rattle.progressive.specs.Inside.{Arrived, place_at, place_of}
 use Rattle.progressive.proofs.Indexed.{and_left, and_right}
 use Rattle.progressive.proofs.Formed.{FormedTable, faces_within, formed_at, formed_table, offset_within, test_failed}
 
 -- ---- from step to step
-
-pub step_first : (t : List ℕ) {f : ℕ} → f ≡ base_faces t → AtStep t 0 (record { offset = head_words; faces = f })
-unfolding step_offset faces_before
-step_first t e = record { offset = refl; faces = e }
 
 pub step_next : (t : List ℕ) (k : ℕ) {at : StepSpot} {after new : ℕ} → AtStep t k at
     → after ≡ next_step t at.offset → new ≡ new_face_count t at.offset → AtStep t (k + 1) (record { offset = after; faces = at.faces + new })
@@ -47,11 +44,6 @@ arrived t k h l n =
     let q : k - 1 + 1 ≡ k = omega arith in
     record { next_at = rw q at n.offset; last_at = l.offset; count = rw q at n.faces }
 
--- no step is before level 0
-pub arrived_base : (t : List ℕ) (k : ℕ) {at : StepSpot} → k ≡ 0 → AtStep t 0 at
-    → Arrived t k (record { next = at.offset; last = at.offset; faces = at.faces })
-arrived_base t k e s = rw e (record { next_at = s.offset; last_at = s.offset; count = s.faces })
-
 pub record Agreeing (t : List ℕ) (f p : ℕ) : Type 0 where
   pub from_base : base_positions t ≤ p
   pub steps : p - base_positions t ≤ step_count t
@@ -68,10 +60,6 @@ agreeing t f p e = record {
 -- ---- the level of the present counts: 13, then 15
 
 module _ (t : List ℕ) (f p : ℕ) where
-  pub not_formed : {a : Bool} → a ≡ well_formed t → a ≡ false → refused bad_steps 0 ≡ place_of t f p
-  unfolding level_of
-  not_formed e h = rw (← e, h)
-
   pub disagrees : well_formed t ≡ true → (counts_agree t f p ≡ true → ⊥) → refused counts_disagree 0 ≡ place_of t f p
   unfolding level_of
   disagrees e h = rw (e, ← test_failed (counts_agree t f p) h)

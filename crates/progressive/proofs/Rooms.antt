@@ -1,5 +1,5 @@
 -- Counts that fit their tables: what the test tells. Each fact is a conjunct of the test.
-use Rattle.std.proofs.Common.{◌≡◌, ℕ, ◌*◌, ◌≤◌, Bool, true, ◌&&◌, leb, sym, ◌∙◌, le-leb, leb-true}
+use Rattle.std.proofs.Common.{◌≡◌, ℕ, ◌*◌, ◌≤◌, Bool, true, ◌&&◌, sym, ◌∙◌, leb-true}
 use Rattle.fields.specs.Limits.{largest_count}
 use Rattle.mesh.specs.Corners.{face_words}
 use Rattle.mesh.specs.Base.{position_words}
@@ -20,10 +20,6 @@ fitting a b f p e = record {
   face_room = leb-true _ _ (search (and_left, and_right));
   position_room = leb-true _ _ (search (and_left, and_right));
 }
-
-pub fits_by_positions : (a b f p : ℕ) → f ≤ largest_count → p ≤ largest_count → face_words * f ≤ a → leb (position_words * p) b ≡ fits a b f p
-unfolding fits
-fits_by_positions a b f p x y z = rw (le-leb _ _ x, le-leb _ _ y, le-leb _ _ z)
 
 -- both counts fit: what each tells
 module _ (a b f p g q : ℕ) {v : Bool} (e : v ≡ fits a b f p && fits a b g q) (h : v ≡ true) where

@@ -1,18 +1,21 @@
 -- Laws of walks: a walk over one list after another is the walk over both, since no refusal has the number 0.
-use Rattle.std.proofs.Common.{◌≡◌, ℕ, zero, suc, ◌+◌, ◌-◌, ◌%◌, ◌^◌, ◌<◌, ◌≤◌, Bool, true, false, not, ◌&&◌, eqb, leb, List, [], ◌∷◌, ◌++◌, replicate, sym, refl, ap, ◌∙◌, add_assoc, mod-lt, mod-eq_of_lt, arith, eq-eqb, ne_eqb}
+use Rattle.std.proofs.Common.{◌≡◌, ℕ, zero, suc, ◌+◌, ◌-◌, ◌%◌, ◌^◌, ◌<◌, ◌≤◌, Bool, true, false, not, ◌&&◌, eqb, List, [], ◌∷◌, ◌++◌, replicate, sym, refl, ap, ◌∙◌, add_assoc, mod-lt, mod-eq_of_lt, arith, ne_eqb, le-leb, Result, Ok, Err}
+use borrow.Author.Tests.{lt-leb}
 use native.Mathlib.Nat.{mod-add-mod, mod-mod}
 use Rattle.fields.specs.Judged.{Judged, done, refused, on_done, pick, refused_if}
 use Rattle.fields.specs.Numbers.{bad_steps, counts_disagree, no_step, no_room, not_allowed, bad_state, over_limit}
 use Rattle.fields.specs.Limits.{most_steps}
-use Rattle.fields.specs.declared.numbers.Refusal.{Refusal}
-use Rattle.progressive.specs.declared.counts.Counts.{Counts}
-use Rattle.progressive.specs.declared.counts.Stepped as stepped
+use Rattle.fields.specs.declared.refusal.Fault.{Fault}
+use Rattle.fields.specs.declared.refusal.Fault.TheVariants as fault
+use Rattle.progressive.specs.declared.refine.Direction.{Direction}
+use Rattle.progressive.specs.declared.refine.Direction.TheVariants as direction
+use Rattle.progressive.specs.Inside.{Asked, NamesDirection}
 use Rattle.progressive.specs.StepTable.{new_face_count, step_count, step_offset, well_formed}
-use Rattle.progressive.specs.Mesh.{Mesh, mesh_of, room_for}
+use Rattle.progressive.specs.Mesh.{Mesh, room_for}
 use Rattle.progressive.specs.Rules.{allowed, numbers_allowed}
 use Rattle.progressive.specs.Laying.{room_clear, shows_laid}
-use Rattle.progressive.specs.Steps.{Reply, coarsened, coarsened_by, counts_agree, denied, granted, level_of, refined, refined_by, reply, reply_of}
-use Rattle.progressive.specs.Requests.{Ask, StepWalk, add_granted, ask_down, ask_in, ask_over, ask_up, as_told, asked_on, asks_of, granted_first, onward, walk_by, walk_over, walked_on}
+use Rattle.progressive.specs.Steps.{coarsened, coarsened_by, counts_agree, denied, granted, level_of, refined, refined_by, reply}
+use Rattle.progressive.specs.Requests.{Ask, StepWalk, add_granted, ask_down, ask_over, ask_up, as_told, asked_on, asks_of, granted_first, onward, walk_by, walk_over, walked_on}
 
 -- ---- no refusal has the number 0
 
@@ -158,31 +161,21 @@ module _ (t : List ℕ) (shadings : ℕ) where
   denied_by (done o) m kept n p e = let z : ◌≡◌ {A = ℕ} 0 1 = cc in absurd (omega arith)
   denied_by (refused i q) m kept n p e = let a : n ≡ i = cc in let b : p ≡ q = cc in (rw (a, b), cc)
 
-  module _ (ask : Ask) (w : StepWalk Mesh) {v : stepped.Stepped} (faces positions : List ℕ) (e : w.number ≡ 0)
-      (answer : reply_of v faces positions ≡ reply (asked_on t shadings w.state ask) w.state) where
-    pub one_granted : {made : Counts} {g : ℕ} → v ≡ stepped.TheVariants.Done made → g ≡ (w.granted + 1) % 2 ^ 64
-        → ◌≡◌ {A = StepWalk Mesh} (record { number = 0; granted = g; state = mesh_of faces positions made }) (walked_on t shadings (ask ∷ []) w)
+  module _ (ask : Ask) (w : StepWalk Mesh) (faces positions : List ℕ) (e : w.number ≡ 0) where
+    pub one_granted : {made : Mesh} {g : ℕ} → granted made ≡ reply (asked_on t shadings w.state ask) w.state → g ≡ (w.granted + 1) % 2 ^ 64
+        → ◌≡◌ {A = StepWalk Mesh} (record { number = 0; granted = g; state = made }) (walked_on t shadings (ask ∷ []) w)
     unfolding walk_by
-    one_granted {made} f told =
-        let j : asked_on t shadings w.state ask ≡ done (mesh_of faces positions made) =
-        granted_by _ w.state (mesh_of faces positions made) (rw f at answer) in
+    one_granted {made} answer told =
+        let j : asked_on t shadings w.state ask ≡ done made = granted_by _ w.state made answer in
         rw (going w (λ m. walk_over t shadings m (ask ∷ [])) e, j, told)
 
-    pub one_denied : {kept : Counts} {refusal : Refusal} → v ≡ stepped.TheVariants.Refused refusal kept → w.granted < 2 ^ 64
-        → ◌≡◌ {A = StepWalk Mesh} (record { number = refusal.number; granted = w.granted; state = mesh_of faces positions kept }) (walked_on t shadings (ask ∷ []) w)
+    pub one_denied : {kept : Mesh} {n p : ℕ} → denied n p kept ≡ reply (asked_on t shadings w.state ask) w.state → w.granted < 2 ^ 64
+        → ◌≡◌ {A = StepWalk Mesh} (record { number = n; granted = w.granted; state = kept }) (walked_on t shadings (ask ∷ []) w)
     unfolding walk_by
-    one_denied {kept} {refusal} f small =
-        let j = denied_by (asked_on t shadings w.state ask) w.state (mesh_of faces positions kept) refusal.number refusal.place (rw f at answer) in
+    one_denied {kept} {n} {p} answer small =
+        let j = denied_by (asked_on t shadings w.state ask) w.state kept n p answer in
         let same : w.granted + 0 ≡ w.granted = omega arith in
         rw (going w (λ m. walk_over t shadings m (ask ∷ [])) e, j.0, same, mod-eq_of_lt small, j.1)
-
-  -- a direction is an ask
-  module _ (m : Mesh) (direction : ℕ) {r : Reply} where
-    pub step_up : direction ≡ 0 → r ≡ reply (refined t shadings m) m → r ≡ reply (asked_on t shadings m (ask_in direction)) m
-    step_up e h = rw (eq-eqb direction 0 e) h
-
-    pub step_down : (direction ≡ 0 → ⊥) → r ≡ reply (coarsened t shadings m) m → r ≡ reply (asked_on t shadings m (ask_in direction)) m
-    step_down e h = rw (ne_eqb direction 0 e) h
 
   -- a turn of the loop
   pub walked_more : (ask : Ask) (left : ℕ) (w : StepWalk Mesh) {v : StepWalk Mesh} (goal : StepWalk Mesh) → 0 < left → v ≡ walked_on t shadings (ask ∷ []) w
@@ -202,15 +195,24 @@ module _ (t : List ℕ) (shadings : ℕ) where
       let same : v.granted ≡ (onward w (λ m. walk_over t shadings m list)).granted % 2 ^ 64 = ap (λ (u : StepWalk Mesh). u.granted) e in
       rw same (mod-lt (onward w (λ m. walk_over t shadings m list)).granted (omega arith))
 
-  -- a wish: refused, or its steps
-  pub over_limit_lem : (direction count : ℕ) (w : StepWalk Mesh) {b : Bool} → b ≡ leb count most_steps && leb direction 1 → b ≡ false → w.number ≡ 0 → w.granted < 2 ^ 64
-      → ◌≡◌ {A = StepWalk Mesh} (record { number = over_limit; granted = w.granted; state = w.state }) (walked_on t shadings (asks_of direction count) w)
-  unfolding asks_of walk_by
-  over_limit_lem direction count w f g e small =
+  -- a wish that is refused
+  pub over_limit_lem : (list : List Ask) (w : StepWalk Mesh) → list ≡ ask_over ∷ [] → w.number ≡ 0 → w.granted < 2 ^ 64
+      → ◌≡◌ {A = StepWalk Mesh} (record { number = over_limit; granted = w.granted; state = w.state }) (walked_on t shadings list w)
+  unfolding walk_by
+  over_limit_lem list w f e small =
       let same : w.granted + 0 ≡ w.granted = omega arith in
-      rw (← f, g, going w (λ m. walk_over t shadings m (ask_over ∷ [])) e, same, mod-eq_of_lt small)
+      rw (f, going w (λ m. walk_over t shadings m (ask_over ∷ [])) e, same, mod-eq_of_lt small)
 
-  pub in_limit : (direction count : ℕ) (w : StepWalk Mesh) {b : Bool} → b ≡ leb count most_steps && leb direction 1 → b ≡ true
-      → walked_on t shadings (replicate count (ask_in direction)) w ≡ walked_on t shadings (asks_of direction count) w
-  unfolding asks_of
-  in_limit direction count w f g = rw (← f, g)
+-- ---- a wish and its asks
+
+-- too many steps
+pub asked_over : (direction count : ℕ) → most_steps < count → Asked (asks_of direction count) count (Err fault.OverLimit)
+unfolding asks_of
+asked_over direction count h = rw (lt-leb count most_steps h) (refl, refl)
+
+-- the direction decides
+pub asked_by : (r : Result Direction Fault) (direction count : ℕ) → count ≤ most_steps → NamesDirection direction r → Asked (asks_of direction count) count r
+unfolding asks_of
+asked_by (Ok direction.Up) n count h e = rw (le-leb count most_steps h, e)
+asked_by (Ok direction.Down) n count h e = rw (le-leb count most_steps h, e)
+asked_by (Err f) n count h e = rw (le-leb count most_steps h, lt-leb n 1 e.0) (refl, e.1)

@@ -1,55 +1,26 @@
 -- Inside the crate: what its private functions require and promise. No public promise cites this file.
-use Rattle.std.specs.Prelude.{◌≡◌, ℕ, ◌+◌, ◌-◌, ◌*◌, ◌/◌, ◌%◌, ◌<◌, ◌≤◌, Bool, true, List, length, ◌==◌, slice_index, slice_set}
+use Rattle.std.specs.Prelude.{◌≡◌, ℕ, ◌+◌, ◌-◌, ◌*◌, ◌<◌, ◌≤◌, Bool, true, false, List, [], ◌∷◌, length, replicate, ◌==◌, Result, Ok, Err}
 use Rattle.fields.specs.All.{all}
 use Rattle.fields.specs.Limits.{largest_count}
 use Rattle.fields.specs.Judged.{Judged, done, refused, on_done, pick}
+use Rattle.fields.specs.Numbers.{fault_number}
+use Rattle.fields.specs.declared.refusal.Fault.{Fault}
+use Rattle.fields.specs.declared.refusal.Fault.TheVariants as fault
 use Rattle.mesh.specs.Corners.{face_words, absent, corner_fields}
 use Rattle.progressive.specs.declared.counts.Counts.{Counts}
-use Rattle.progressive.specs.declared.counts.Stepped as stepped
-use Rattle.progressive.specs.declared.levels.Marks.{Marks}
 use Rattle.progressive.specs.declared.levels.Place.{Place}
-use Rattle.progressive.specs.declared.levels.StepSpot.{StepSpot}
 use Rattle.progressive.specs.declared.levels.Walked.{Walked}
-use Rattle.progressive.specs.declared.levels.Located as located
-use Rattle.progressive.specs.declared.refine.Verdict as verdict
-use Rattle.progressive.specs.StepTable.{move_count, new_face_count, faces_before, step_count, step_formed, step_offset, well_formed, step_words, move_words, move_face, move_corner}
+use Rattle.progressive.specs.declared.list.MarkedList.{MarkedList}
+use Rattle.progressive.specs.declared.refine.Direction.{Direction}
+use Rattle.progressive.specs.declared.refine.Direction.TheVariants as direction
+use Rattle.progressive.specs.declared.requests.Progress.{Progress}
+use Rattle.progressive.specs.StepTable.{move_count, new_face_count, faces_before, step_formed, step_offset, well_formed, step_words, move_words, move_face, move_corner}
 use Rattle.progressive.specs.Indexed.{from, writes, shows}
 use Rattle.progressive.specs.Rules.{move_numbers}
 use Rattle.progressive.specs.Laying.{new_face_field, new_face_number}
 use Rattle.progressive.specs.Mesh.{Mesh}
 use Rattle.progressive.specs.Steps.{level_of}
-
--- ---- marks: mark j is step mark_steps * j
-
-abbrev pub mark_steps : ℕ
-mark_steps = 16
-
--- a table of marks with the value v of step k, if that is one
-abbrev pub with_mark : ℕ → ℕ → List ℕ → List ℕ
-with_mark k v l = pick (k % mark_steps == 0) (slice_set l (k / mark_steps) v) l
-
--- the marks before step n are noted, as far as the table goes
-abbrev pub Noted : (ℕ → ℕ) → List ℕ → ℕ → Type 0
-Noted val l n = (j : ℕ) → j < length l → mark_steps * j < n → slice_index l j ≡ val (mark_steps * j)
-
-pub record MarksNoted (t offsets faces : List ℕ) (n : ℕ) : Type 0 where
-  pub offsets_noted : Noted (step_offset t) offsets n
-  pub faces_noted : Noted (faces_before t) faces n
-
--- what was judged of a list and noted of its steps
-pub record Marked (t : List ℕ) (formed : Bool) (offsets faces : List ℕ) : Type 0 where
-  pub judged : formed ≡ well_formed t
-  pub some : 0 < length offsets
-  pub same : length faces ≡ length offsets
-  pub noted : well_formed t ≡ true → MarksNoted t offsets faces (step_count t)
-
-abbrev pub MarkedBy : List ℕ → Marks → Type 0
-MarkedBy t m = Marked t m.formed m.offsets m.faces
-
--- step k
-pub record AtStep (t : List ℕ) (k : ℕ) (r : StepSpot) : Type 0 where
-  pub offset : r.offset ≡ step_offset t k
-  pub faces : r.faces ≡ faces_before t k
+use Rattle.progressive.specs.Requests.{Ask, ask_down, ask_over, ask_up}
 
 -- the walk to level k
 pub record Arrived (t : List ℕ) (k : ℕ) (w : Walked) : Type 0 where
@@ -64,18 +35,44 @@ place_at t k = record { level = k; next = step_offset t k; last = step_offset t 
 abbrev pub place_of : List ℕ → ℕ → ℕ → Judged Place
 place_of t f p = on_done (level_of t f p) λ k. done (place_at t k)
 
-abbrev pub located_given : located.Located → Judged Place
-located_given (located.TheVariants.At place) = done place
-located_given (located.TheVariants.Refused n) = refused n 0
+-- what was judged of a list: its form, or 13
+abbrev pub JudgedList : List ℕ → Result MarkedList Fault → Type 0
+JudgedList t (Ok list) = (well_formed t ≡ true) × (list.steps.now ≡ t)
+JudgedList t (Err f) = (well_formed t ≡ false) × (f ≡ fault.BadSteps)
 
 -- every place is 0
-abbrev pub refusal_of : ℕ → Counts → stepped.Stepped
-refusal_of n counts = stepped.TheVariants.Refused (record { number = n; place = 0 }) counts
+abbrev pub judged_of : {A : Type 0} → Result A Fault → Judged A
+judged_of (Ok a) = done a
+judged_of (Err f) = refused (fault_number f) 0
 
 -- a step that is granted makes the mesh
-abbrev pub verdict_given : verdict.Verdict → Mesh → Judged Mesh
-verdict_given verdict.TheVariants.Granted made = done made
-verdict_given (verdict.TheVariants.Refused n) made = refused n 0
+abbrev pub verdict_given : Result (Unit {0}) Fault → Mesh → Judged Mesh
+verdict_given (Ok _) made = done made
+verdict_given (Err f) made = refused (fault_number f) 0
+
+-- a walk that ends with a refusal
+abbrev pub refused_as : Fault → Progress → Progress
+refused_as f p = record { number = fault_number f; granted = p.granted; counts = p.counts }
+
+-- ---- the way of a step
+
+abbrev pub direction_number : Direction → ℕ
+direction_number direction.Up = 0
+direction_number direction.Down = 1
+
+abbrev pub ask_of : Direction → Ask
+ask_of direction.Up = ask_up
+ask_of direction.Down = ask_down
+
+-- the direction that has this number; 9 where none has
+abbrev pub NamesDirection : ℕ → Result Direction Fault → Type 0
+NamesDirection n (Ok direction) = n ≡ direction_number direction
+NamesDirection n (Err f) = (1 < n) × (f ≡ fault.OverLimit)
+
+-- the asks of a wish of so many steps: each one way, or one that is refused with 9
+abbrev pub Asked : List Ask → ℕ → Result Direction Fault → Type 0
+Asked list count (Ok direction) = list ≡ replicate count (ask_of direction)
+Asked list count (Err f) = (list ≡ ask_over ∷ []) × (f ≡ fault.OverLimit)
 
 -- move i of the step at offset o stands in the table, and names this face and corner
 pub record MoveNames (t : List ℕ) (o i face corner : ℕ) : Type 0 where

@@ -5,4 +5,5 @@ pub mod Rules
 pub mod Laying
 pub mod Steps
 pub mod Requests
+pub mod Marks
 pub mod Inside

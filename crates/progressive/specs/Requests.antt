@@ -5,8 +5,9 @@ use Rattle.fields.specs.Numbers.{over_limit}
 use Rattle.fields.specs.Limits.{most_steps}
 use Rattle.fields.specs.Judged.{Judged, done, refused, pick}
 use Rattle.progressive.specs.declared.requests.StepRequest.{StepRequest}
+use Rattle.progressive.specs.declared.counts.Counts.{Counts}
 use Rattle.progressive.specs.declared.requests.Progress.{Progress}
-use Rattle.progressive.specs.Mesh.{Mesh}
+use Rattle.progressive.specs.Mesh.{Mesh, mesh_of}
 use Rattle.progressive.specs.Steps.{coarsened, refined}
 
 -- what is asked in turn: one step up, one step down, or a wish that is refused
@@ -71,14 +72,13 @@ onward w next = pick (w.number == 0) (add_granted w.granted (next w.state)) w
 abbrev pub as_told : {A : Type 0} → StepWalk A → StepWalk A
 as_told w = record { number = w.number; granted = w.granted % 2 ^ 64; state = w.state }
 
+-- a walk that has taken no wish, at these counts
+abbrev pub begun : Counts → Progress
+begun counts = record { number = 0; granted = 0; counts = counts }
+
 -- number, granted steps and counts, beside what the tables then hold
 abbrev pub progress_of : Progress → List ℕ → List ℕ → StepWalk Mesh
-progress_of p faces positions =
-    record {
-      number = p.number;
-      granted = p.granted;
-      state = record { faces = faces; positions = positions; face_count = p.faces; position_count = p.positions };
-    }
+progress_of p faces positions = record { number = p.number; granted = p.granted; state = mesh_of faces positions p.counts }
 
 -- the walk so far, and then these asks
 abbrev pub walked_on : List ℕ → ℕ → List Ask → StepWalk Mesh → StepWalk Mesh

@@ -1,9 +1,10 @@
 -- One step up, a vertex split, and one step down (01: up and down), on the caller's tables and the present counts. "Order for both: 13, 15
 -- .., 16, 12 .., 14, 18"; every place is 0.
-use Rattle.std.specs.Prelude.{ℕ, ◌+◌, ◌-◌, Bool, not, ◌&&◌, List, ◌==◌, nat_le}
-use Rattle.fields.specs.Numbers.{bad_steps, counts_disagree, no_step, no_room, not_allowed, bad_state}
+use Rattle.std.specs.Prelude.{ℕ, ◌+◌, ◌-◌, Bool, not, ◌&&◌, List, ◌==◌, nat_le, Result, Ok, Err}
+use Rattle.fields.specs.Numbers.{bad_steps, counts_disagree, no_step, no_room, not_allowed, bad_state, fault_number}
 use Rattle.fields.specs.Judged.{Judged, done, refused, on_done, refused_if}
-use Rattle.progressive.specs.declared.counts.Stepped as stepped
+use Rattle.fields.specs.declared.refusal.Fault.{Fault}
+use Rattle.progressive.specs.declared.counts.Counts.{Counts}
 use Rattle.progressive.specs.StepTable.{base_positions, step_count, new_face_count, step_offset, faces_before, well_formed}
 use Rattle.progressive.specs.Mesh.{Mesh, mesh_of, room_for}
 use Rattle.progressive.specs.Rules.{allowed, numbers_allowed}
@@ -75,7 +76,8 @@ abbrev pub reply : Judged Mesh → Mesh → Reply
 reply (done made) m = granted made
 reply (refused n p) m = denied n p m
 
--- 01's number, place and counts of each case, beside what the tables then hold
-abbrev pub reply_of : stepped.Stepped → List ℕ → List ℕ → Reply
-reply_of (stepped.TheVariants.Done counts) faces positions = granted (mesh_of faces positions counts)
-reply_of (stepped.TheVariants.Refused e counts) faces positions = denied e.number e.place (mesh_of faces positions counts)
+-- 01's number, place and counts of each case, beside what the tables then hold: a refusal, at place 0, gives back the counts that were
+-- handed in
+abbrev pub reply_of : Counts → Result Counts Fault → List ℕ → List ℕ → Reply
+reply_of counts (Ok after) faces positions = granted (mesh_of faces positions after)
+reply_of counts (Err fault) faces positions = denied (fault_number fault) 0 (mesh_of faces positions counts)

@@ -1,162 +1,134 @@
 // Many steps in one call (02, Ask 6): a walk takes wishes in turn and stops at the first refusal; the steps granted before it stay.
-ghost use Rattle.std.specs.Prelude.{◌≡◌, ◌&&◌, [], ◌∷◌, nat_le};
-ghost use Rattle.fields.specs.Limits.{most_steps};
-ghost use Rattle.progressive.specs.Mesh.{mesh_of};
-ghost use Rattle.progressive.specs.Steps.{reply, reply_of};
-ghost use Rattle.progressive.specs.Inside.{Marked, MarkedBy};
-ghost use Rattle.progressive.specs.Requests.{ask_in, asked_on, asks, asks_of, progress_of, walked_on};
+ghost use Rattle.std.specs.Prelude.{◌≡◌, [], ◌∷◌};
+ghost use Rattle.progressive.specs.Inside.{Asked, JudgedList, ask_of, refused_as};
+ghost use Rattle.progressive.specs.Requests.{asks, asks_of, begun, progress_of, walked_on};
 
-use crate::counts::{Counts, Stepped};
-use crate::levels::{Marks, locate, mark_steps};
-use crate::refine::{coarsen_located, refine_located};
+use crate::counts::Counts;
+use crate::form::{MARK_STEPS, StepSpot};
+use crate::levels::judge_list;
+use crate::list::MarkedList;
+use crate::refine::{Direction, step_in};
 use fields::limits::MOST_STEPS;
-use fields::numbers::OVER_LIMIT;
+use fields::refusal::Fault;
+
+// The marks of the longest list.
+const MARKS: usize = MOST_STEPS as usize / MARK_STEPS;
 
 // A wish: steps up (direction 0) or down (1), and how many.
+// Kept: the direction is a number since the C interface lends wishes.
 #[repr(C)]
-#[derive(Drop)]
+#[derive(Clone, Copy, Debug, PartialEq, Eq)]
 pub struct StepRequest {
     pub direction: u32,
     pub count: u32,
 }
 
 // What a walk has come to: the number of its refusal, or 0; the steps granted, modulo 2^64; the present counts.
-#[derive(Drop)]
+// Kept: a number, since take_request and step_all promise the same of a start that has any.
+#[derive(Clone, Copy, Debug, PartialEq, Eq)]
 pub struct Progress {
     pub number: u32,
     pub granted: u64,
-    pub positions: u32,
-    pub faces: u32,
+    pub counts: Counts,
 }
 
-// One step up where the direction is 0, else down.
-fn step_in(
-    direction: u32,
-    steps: &[u32],
-    formed: bool,
-    offsets: &[u32],
-    faces_at: &[u32],
-    shadings: u32,
-    faces: &mut [u32],
-    positions: &mut [u32],
-    counts: Counts,
-) -> Stepped
-    requires { Marked steps.now formed offsets.now faces_at.now }
-    ensures { reply_of result faces.new positions.new
-        ≡ reply (asked_on steps.now shadings (mesh_of faces.old positions.old counts) (ask_in direction))
-        (mesh_of faces.old positions.old counts) }
-{
-    let f = counts.faces as usize;
-    let r = counts.positions as usize;
-    let located = locate(steps, formed, offsets, faces_at, f, r);
-    if direction == 0 {
-        return refine_located(steps, located, shadings, faces, positions, counts);
+// A walk that has taken no wish.
+impl From<Counts> for Progress {
+    ghost from_gives = { λ counts progress. progress ≡ begun counts };
+
+    fn from(counts: Counts) -> Progress {
+        Progress {
+            number: 0,
+            granted: 0,
+            counts,
+        }
     }
-    coarsen_located(steps, located, shadings, faces, positions, counts)
 }
 
-// One step more of a walk that was not refused.
+impl Progress {
+    // The same steps and counts, and a refusal.
+    fn refused(self, fault: Fault) -> Progress
+        ensures { result ≡ refused_as fault self }
+    {
+        Progress {
+            number: u32::from(fault),
+            ..self
+        }
+    }
+}
+
+// The way of a wish; 9 where it is neither up nor down, or above 4,096 steps.
+#[tactic(auto, using(crate::proofs::Walking::asked_over, crate::proofs::Walking::asked_by))]
+fn direction_of(request: StepRequest) -> Result<Direction, Fault>
+    ensures { Asked (asks_of request.direction request.count) request.count result }
+{
+    if MOST_STEPS < request.count {
+        Err(Fault::OverLimit)
+    } else {
+        Direction::try_from(request.direction)
+    }
+}
+
+// One step more of a walk, unless it was refused.
 fn step_on(
-    direction: u32,
+    direction: Direction,
     steps: &[u32],
-    formed: bool,
-    offsets: &[u32],
-    faces_at: &[u32],
+    list: Result<MarkedList, Fault>,
     shadings: u32,
     faces: &mut [u32],
     positions: &mut [u32],
     progress: Progress,
 ) -> Progress
-    requires { Marked steps.now formed offsets.now faces_at.now }
+    requires { JudgedList steps.now list }
     ensures { progress_of result faces.new positions.new
-        ≡ walked_on steps.now shadings (ask_in direction ∷ []) (progress_of progress faces.old positions.old) }
+        ≡ walked_on steps.now shadings (ask_of direction ∷ []) (progress_of progress faces.old positions.old) }
 {
     if progress.number != 0 {
         return progress;
     }
-    let counts = Counts {
-        positions: progress.positions,
-        faces: progress.faces,
-    };
-    match step_in(
-        direction, steps, formed, offsets, faces_at, shadings, faces, positions, counts,
-    ) {
-        Stepped::Done(made) => Progress {
+    let counts = progress.counts;
+    match step_in(direction, steps, list, shadings, faces, positions, counts) {
+        Ok(after) => Progress {
             number: 0,
-            granted: std::num::wrapping_add_u64(progress.granted, 1),
-            positions: made.positions,
-            faces: made.faces,
+            granted: progress.granted.wrapping_add(1),
+            counts: after,
         },
-        Stepped::Refused(refusal, kept) => Progress {
-            number: refusal.number,
-            granted: progress.granted,
-            positions: kept.positions,
-            faces: kept.faces,
-        },
+        Err(fault) => progress.refused(fault),
     }
 }
 
-// A wish that is up or down, and at most 4,096.
-fn request_formed(direction: u32, count: u32) -> bool
-    ensures { result ≡ (nat_le count most_steps && nat_le direction 1) }
-{
-    if MOST_STEPS < count {
-        return false;
-    }
-    direction <= 1
-}
-
-// One wish of a walk, in a list whose form was judged and whose marks were noted.
-pub(crate) fn take_marked(
-    direction: u32,
-    count: u32,
+// One wish of a walk, in a list that was judged.
+fn take_judged(
+    request: StepRequest,
     steps: &[u32],
-    marks: Marks,
+    list: Result<MarkedList, Fault>,
     shadings: u32,
     faces: &mut [u32],
     positions: &mut [u32],
     start: Progress,
 ) -> Progress
-    requires { MarkedBy steps.now marks }
+    requires { JudgedList steps.now list }
     ensures { progress_of result faces.new positions.new
-        ≡ walked_on steps.now shadings (asks_of direction count) (progress_of start faces.old positions.old) }
+        ≡ walked_on steps.now shadings (asks_of request.direction request.count) (progress_of start faces.old positions.old) }
 {
     if start.number != 0 {
         return start;
     }
-    if !request_formed(direction, count) {
-        return Progress {
-            number: OVER_LIMIT,
-            granted: start.granted,
-            positions: start.positions,
-            faces: start.faces,
-        };
+    match direction_of(request) {
+        Err(fault) => start.refused(fault),
+        Ok(direction) => {
+            let mut progress = start;
+            for _ in 0..request.count {
+                progress = step_on(direction, steps, list, shadings, faces, positions, progress);
+            }
+            progress
+        }
     }
-    let offsets = marks.offsets;
-    let faces_at = marks.faces;
-    let mut progress = start;
-    let mut left = count;
-    while 0 < left {
-        progress = step_on(
-            direction,
-            steps,
-            marks.formed,
-            &offsets,
-            &faces_at,
-            shadings,
-            faces,
-            positions,
-            progress,
-        );
-        left -= 1;
-    }
-    progress
 }
 
 // One wish of a walk that was not refused: 9 if it is above 4,096 or neither up nor down; else its steps, to the first refusal.
 pub fn take_request(
-    direction: u32,
-    count: u32,
+    request: StepRequest,
     steps: &[u32],
     shadings: u32,
     faces: &mut [u32],
@@ -164,12 +136,14 @@ pub fn take_request(
     start: Progress,
 ) -> Progress
     ensures { progress_of result faces.new positions.new
-        ≡ walked_on steps.now shadings (asks_of direction count) (progress_of start faces.old positions.old) }
+        ≡ walked_on steps.now shadings (asks_of request.direction request.count) (progress_of start faces.old positions.old) }
 {
-    let marks = mark_steps(steps);
-    take_marked(
-        direction, count, steps, marks, shadings, faces, positions, start,
-    )
+    let mut marks = [StepSpot {
+        offset: 0,
+        faces: 0,
+    }; MARKS];
+    let list = judge_list(steps, &mut marks);
+    take_judged(request, steps, list, shadings, faces, positions, start)
 }
 
 // Every wish in turn, to the first refusal.
@@ -184,16 +158,14 @@ pub fn step_all(
     ensures { progress_of result faces.new positions.new
         ≡ walked_on steps.now shadings (asks requests.now) (progress_of start faces.old positions.old) }
 {
-    let marks = mark_steps(steps);
+    let mut marks = [StepSpot {
+        offset: 0,
+        faces: 0,
+    }; MARKS];
+    let list = judge_list(steps, &mut marks);
     let mut progress = start;
-    let mut i: usize = 0;
-    while i < requests.len() {
-        let direction = requests[i].direction;
-        let count = requests[i].count;
-        progress = take_marked(
-            direction, count, steps, marks, shadings, faces, positions, progress,
-        );
-        i = i + 1;
+    for request in requests {
+        progress = take_judged(*request, steps, list, shadings, faces, positions, progress);
     }
     progress
 }

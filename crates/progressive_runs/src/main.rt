@@ -5,24 +5,25 @@
 mod breathe;
 mod calls;
 mod print;
-mod state;
+mod run;
 mod stored;
 mod table;
-mod walk;
 
 use calls::perform_all;
-use climb::{ClimbRead, read_climb};
+use climb::read_climb;
 use fields::field::bytes_at;
-use input::{Input, argument_count};
-use mesh::base::{MeshRead, read_mesh};
-use print::{print_climb, print_mesh, print_text};
+use input::argument_count;
+use mesh::base::{MeshCounts, MeshRefusal, read_mesh};
+use mesh::tables::Tables;
+use print::{print_climb, print_mesh};
 use progressive::counts::Counts;
-use state::State;
+use progressive::requests::Progress;
+use run::Run;
 use std::env::Env;
 use std::io;
 use std::rt::Runtime;
-use stored::{Lengths, are_within, calls_of, continuation_of, declaration_of, lengths_of, text_of};
-use table::{fill, filled};
+use stored::{Lengths, Stored};
+use table::filled;
 
 // Room for 65,537 faces and positions, and 4,097 steps.
 const FACE_ROOM: usize = 1245203;
@@ -36,117 +37,97 @@ const SMALL_ROOM: usize = 8192;
 
 const POOL_ROOM: usize = 4096;
 
-fn read_base(file: &[u8], faces: &mut [u32], positions: &mut [u32]) -> MeshRead {
+fn read_base(
+    stored: Stored,
+    faces: &mut [u32],
+    positions: &mut [u32],
+) -> Result<MeshCounts, MeshRefusal> {
     let mut normals = [0u32; POOL_ROOM];
     let mut diffuse = [0u32; POOL_ROOM];
     let mut specular = [0u32; POOL_ROOM];
     let mut texture = [0u32; POOL_ROOM];
-    read_mesh(
-        declaration_of(file),
-        continuation_of(file),
+    let tables = Tables {
         faces,
         positions,
-        &mut normals,
-        &mut diffuse,
-        &mut specular,
-        &mut texture,
-    )
-}
-
-// The state before the first call: no counts and no shadings of a refused mesh, no words of a refused text.
-fn first_state(mesh: MeshRead, climb: ClimbRead, faces: usize, positions: usize) -> State {
-    let mut counts = Counts {
-        positions: 0,
-        faces: 0,
+        normals: &mut normals,
+        diffuse: &mut diffuse,
+        specular: &mut specular,
+        texture: &mut texture,
     };
-    let mut shadings: u32 = 0;
-    if let MeshRead::Read(read) = mesh {
-        shadings = read.shadings;
-        counts = Counts {
-            positions: read.positions,
-            faces: read.faces,
-        };
-    }
-    let steps = match climb {
-        ClimbRead::Read(words) => words,
-        ClimbRead::Refused(_) => 0,
-    };
-    State {
-        counts,
-        shadings,
-        faces,
-        positions,
-        steps,
-        number: 0,
-        granted: 0,
-    }
+    read_mesh(stored.declaration, stored.continuation, tables)
 }
 
-// The calls that follow a mesh and a text.
-fn run_calls(
-    rt: &impl Print,
-    file: &[u8],
-    mesh: MeshRead,
-    climb: ClimbRead,
-    faces: &mut [u32],
-    positions: &mut [u32],
-    steps: &mut [u32],
-) -> io::Result<()> {
-    let state = first_state(mesh, climb, faces.len(), positions.len());
-    perform_all(rt, calls_of(file), steps, faces, positions, state)
-}
-
+// Mesh, text and calls, on tables of these lengths. A refused mesh has no counts and no shadings, a refused text no words.
 fn run_with(
     rt: &impl Print,
-    file: &[u8],
+    stored: Stored,
     faces: &mut [u32],
     positions: &mut [u32],
     steps: &mut [u32],
 ) -> io::Result<()> {
-    let mesh = read_base(file, &mut *faces, &mut *positions);
-    print_mesh(rt, &mesh)?;
-    let climb = read_climb(text_of(file), &mut *steps);
-    print_climb(rt, &climb, &*steps)?;
-    run_calls(rt, file, mesh, climb, faces, positions, steps)
+    let mesh = read_base(stored, &mut *faces, &mut *positions);
+    print_mesh(rt, mesh)?;
+    let climb = read_climb(stored.text, &mut *steps);
+    print_climb(rt, climb, &*steps)?;
+    let (positions_read, faces_read, shadings) = match mesh {
+        Ok(read) => (read.positions, read.faces, read.shadings),
+        Err(_) => (0, 0, 0),
+    };
+    let counts = Counts {
+        positions: positions_read,
+        faces: faces_read,
+    };
+    let mut run = Run {
+        lent: Lengths {
+            faces: faces.len(),
+            positions: positions.len(),
+            steps: climb.unwrap_or(0),
+        },
+        steps,
+        faces,
+        positions,
+        shadings,
+        progress: Progress::from(counts),
+    };
+    perform_all(rt, &mut run, stored.calls)
 }
 
 // The same with tables of the lengths that the file asks for, in the rooms for the largest.
-fn run_large(rt: &impl Print, file: &[u8], faces: &mut [u32]) -> io::Result<()> {
+fn run_large(rt: &impl Print, stored: Stored, faces: &mut [u32]) -> io::Result<()> {
     let mut positions = [0u32; POSITION_ROOM];
     let mut steps = [0u32; STEP_ROOM];
-    let lengths = lengths_of(file);
-    let size = lengths.faces;
-    if faces.len() < size {
+    let lengths = stored.lengths;
+    if faces.len() < lengths.faces {
         return Ok(());
     }
-    fill(&mut faces[0..size]);
     run_with(
         rt,
-        file,
-        &mut faces[0..size],
+        stored,
+        filled(faces, lengths.faces),
         filled(&mut positions, lengths.positions),
         filled(&mut steps, lengths.steps),
     )
 }
 
 // The large table is lent as an array: its length is then known by its type.
-fn run_within(rt: &impl Print, file: &[u8], faces: &mut [u32; FACE_ROOM]) -> io::Result<()> {
-    run_large(rt, file, faces)
+fn run_within(rt: &impl Print, stored: Stored, faces: &mut [u32; FACE_ROOM]) -> io::Result<()> {
+    run_large(rt, stored, faces)
 }
 
-fn run_with_room(rt: &impl Print, file: &[u8]) -> io::Result<()> {
+fn run_with_room(rt: &impl Print, stored: Stored) -> io::Result<()> {
     let mut faces = [0u32; FACE_ROOM];
-    run_within(rt, file, &mut faces)
+    run_within(rt, stored, &mut faces)
 }
 
 // Most tables are small.
-fn run_small(rt: &impl Print, file: &[u8], lengths: Lengths) -> io::Result<()> {
+fn run_small(rt: &impl Print, stored: Stored) -> io::Result<()> {
     let mut faces = [0u32; SMALL_ROOM];
     let mut positions = [0u32; SMALL_ROOM];
     let mut steps = [0u32; SMALL_ROOM];
+    let lengths = stored.lengths;
     run_with(
         rt,
-        file,
+        stored,
         filled(&mut faces, lengths.faces),
         filled(&mut positions, lengths.positions),
         filled(&mut steps, lengths.steps),
@@ -154,26 +135,27 @@ fn run_small(rt: &impl Print, file: &[u8], lengths: Lengths) -> io::Result<()> {
 }
 
 fn run_file(rt: &impl Print, file: &[u8]) -> io::Result<()> {
-    let lengths = lengths_of(file);
-    if are_within(lengths, SMALL_ROOM) {
-        run_small(rt, file, lengths)
+    let stored = Stored::of(file);
+    if stored.lengths.are_within(SMALL_ROOM) {
+        run_small(rt, stored)
     } else {
-        run_with_room(rt, file)
+        run_with_room(rt, stored)
     }
 }
 
+// Kept: each program opens and names its files so; a public function for all would owe a promise, and none can say what is printed.
 fn print_name(rt: &(impl Env + Print), i: usize) -> io::Result<()> {
     let mut name = [0u8; 4096];
     let length = rt.arg(i, &mut name).unwrap_or(0);
-    print_text(rt, b"file\t")?;
-    print_text(rt, &name[..length])?;
-    print_text(rt, b"\n")
+    rt.write_all(b"file\t")?;
+    rt.write_all(&name[..length])?;
+    rt.write_all(b"\n")
 }
 
 // A file has at most 64 KiB.
-fn run(rt: &impl Runtime, i: usize) -> io::Result<()> {
+fn run_argument(rt: &impl Runtime, i: usize) -> io::Result<()> {
     let mut file = [0u8; 65536];
-    let Input::Bytes(n) = input::read_file(rt, i, &mut file) else {
+    let Some(n) = input::read_file(rt, i, &mut file) else {
         return Ok(());
     };
     print_name(rt, i)?;
@@ -181,11 +163,8 @@ fn run(rt: &impl Runtime, i: usize) -> io::Result<()> {
 }
 
 fn main(rt: HostRuntime) -> io::Result<()> {
-    let count = argument_count(&rt);
-    let mut i: usize = 1;
-    while i < count {
-        run(&rt, i)?;
-        i += 1;
+    for i in 1..argument_count(&rt) {
+        run_argument(&rt, i)?;
     }
     Ok(())
 }

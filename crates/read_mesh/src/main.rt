@@ -4,16 +4,17 @@
 
 mod print;
 
-use blocks::file::{Walk, walk_blocks};
+use blocks::file::walk_blocks;
 use blocks::parts::data_part;
 use fields::field::bytes_at;
 use fields::limits::LARGEST_PROGRAM_FILE;
-use fields::numbers::{OVER_LIMIT, Refusal};
-use input::{Input, argument_count};
-use mesh::base::{MeshRead, Part, read_mesh};
+use fields::refusal::Fault;
+use input::argument_count;
+use mesh::base::{MeshRefusal, Part, read_mesh};
 use mesh::declaration::mesh_name;
-use print::{print_counts, print_end, print_name, print_refusal, print_text, print_uses};
-use rows::{Declared, declaration_of, is_base_mesh, offset_in};
+use mesh::tables::Tables;
+use print::{print_counts, print_end, print_name, print_refusal, print_uses};
+use rows::{declaration_of, is_base_mesh, offset_in};
 use std::io;
 
 // Room for 65,536 faces.
@@ -34,20 +35,18 @@ fn print_read(
     let mut diffuse = [0u32; POOL_ROOM];
     let mut specular = [0u32; POOL_ROOM];
     let mut texture = [0u32; POOL_ROOM];
-    let read = read_mesh(
-        declaration,
-        continuation,
-        &mut *faces,
-        &mut positions,
-        &mut normals,
-        &mut diffuse,
-        &mut specular,
-        &mut texture,
-    );
-    match read {
-        MeshRead::Refused(part, refusal) => print_refusal(rt, part, refusal),
-        MeshRead::Read(counts) => {
-            print_counts(rt, &counts)?;
+    let tables = Tables {
+        faces: &mut *faces,
+        positions: &mut positions,
+        normals: &mut normals,
+        diffuse: &mut diffuse,
+        specular: &mut specular,
+        texture: &mut texture,
+    };
+    match read_mesh(declaration, continuation, tables) {
+        Err(refused) => print_refusal(rt, refused),
+        Ok(counts) => {
+            print_counts(rt, counts)?;
             print_uses(rt, &*faces, counts.faces)
         }
     }
@@ -59,41 +58,31 @@ fn print_mesh(rt: &impl Print, declaration: &[u8], continuation: &[u8]) -> io::R
 }
 
 // A base mesh that goes with no declaration.
-fn print_without(rt: &impl Print, number: u32) -> io::Result<()> {
-    print_refusal(rt, Part::Continuation, Refusal { number, place: 0 })
+fn print_without(rt: &impl Print, fault: Fault) -> io::Result<()> {
+    let refused = MeshRefusal {
+        part: Part::Continuation,
+        refusal: fault.at(0),
+    };
+    print_refusal(rt, refused)
 }
 
 fn print_base_mesh(rt: &impl Print, file: &[u8], table: &[u32], row: usize) -> io::Result<()> {
     let continuation = data_part(file, offset_in(table, row));
     print_name(rt, mesh_name(continuation))?;
     match declaration_of(file, table, row) {
-        Declared::Refused(number) => print_without(rt, number),
-        Declared::At(at) => print_mesh(rt, data_part(file, at), continuation),
+        Err(fault) => print_without(rt, fault),
+        Ok(at) => print_mesh(rt, data_part(file, at), continuation),
     }
-}
-
-// Prints the block of a row where it is a base mesh, and answers how many of them there are so far.
-fn print_row(
-    rt: &impl Print,
-    file: &[u8],
-    table: &[u32],
-    row: usize,
-    meshes: usize,
-) -> io::Result<usize> {
-    if !is_base_mesh(table, row) {
-        return Ok(meshes);
-    }
-    print_base_mesh(rt, file, table, row)?;
-    Ok(meshes.wrapping_add(1))
 }
 
 // Prints the base meshes, and answers how many there are.
 fn print_rows(rt: &impl Print, file: &[u8], table: &[u32], rows: usize) -> io::Result<usize> {
     let mut meshes: usize = 0;
-    let mut row: usize = 0;
-    while row < rows {
-        meshes = print_row(rt, file, table, row, meshes)?;
-        row += 1;
+    for row in 0..rows {
+        if is_base_mesh(table, row) {
+            print_base_mesh(rt, file, table, row)?;
+            meshes = meshes.wrapping_add(1);
+        }
     }
     Ok(meshes)
 }
@@ -102,20 +91,20 @@ fn print_rows(rt: &impl Print, file: &[u8], table: &[u32], rows: usize) -> io::R
 fn print_walk(rt: &impl Print, file: &[u8]) -> io::Result<()> {
     let mut table = [0u32; 27295];
     match walk_blocks(file, &mut table) {
-        Walk::Refused(e) => print_end(rt, e.number, 0),
-        Walk::Done { blocks } => print_end(rt, 0, print_rows(rt, file, &table, blocks)?),
+        Err(e) => print_end(rt, Err(e.fault)),
+        Ok(blocks) => print_end(rt, Ok(print_rows(rt, file, &table, blocks)?)),
     }
 }
 
-fn print_file(rt: &impl Print, input: Input, buffer: &[u8]) -> io::Result<()> {
-    let Input::Bytes(n) = input else {
+fn print_file(rt: &impl Print, input: Option<usize>, buffer: &[u8]) -> io::Result<()> {
+    let Some(size) = input else {
         return Ok(());
     };
-    print_text(rt, b"meshes\t1\n")?;
-    if LARGEST_PROGRAM_FILE < n {
-        return print_end(rt, OVER_LIMIT, 0);
+    rt.write_all(b"meshes\t1\n")?;
+    if LARGEST_PROGRAM_FILE < size {
+        return print_end(rt, Err(Fault::OverLimit));
     }
-    print_walk(rt, bytes_at(buffer, 0, n))
+    print_walk(rt, bytes_at(buffer, 0, size))
 }
 
 fn main(rt: HostRuntime) -> io::Result<()> {

@@ -1,15 +1,14 @@
 -- Rows of a walk's table, and the declaration that a base mesh goes with: the last before it that has its name.
-use Rattle.std.specs.Prelude.{ℕ, zero, suc, ◌+◌, ◌*◌, ◌/◌, Bool, false, not, List, eqb, ltb, get_or, length}
+use Rattle.std.specs.Prelude.{ℕ, zero, suc, ◌+◌, ◌*◌, ◌/◌, Bool, false, not, List, eqb, ltb, get_or, length, Result, Ok, Err}
 use Rattle.fields.specs.Limits.{largest_file}
 use Rattle.fields.specs.Judged.{Judged, done, refused, on_done, refused_if, pick}
 use Rattle.fields.specs.Bounds.{part_of}
 use Rattle.fields.specs.Name.{name_at, same}
-use Rattle.fields.specs.Numbers.{bad_name, over_limit, out_of_range, out_of_order}
+use Rattle.fields.specs.Numbers.{fault_number, bad_name, over_limit, out_of_range, out_of_order}
+use Rattle.fields.specs.declared.refusal.Fault.{Fault}
 use Rattle.blocks.specs.Parts.{data_bounds, data_part}
 use Rattle.blocks.specs.Told.{row_width}
 use Rattle.mesh.specs.Declaration.{mesh_name}
-use Rattle.rows.specs.declared.Declared.{Declared}
-use Rattle.rows.specs.declared.Declared.TheVariants.{At, Refused}
 
 -- the block types (01: "by last byte under 0xFFFFFF")
 abbrev pub mesh_declaration : ℕ
@@ -67,6 +66,6 @@ declared_for file table row =
     declared_of file table row (part_of file (done bounds)))))
 
 -- 01's number of each case, at place 0 of the base mesh
-unfoldable pub declared_given : Declared → Judged ℕ
-declared_given (At at) = done at
-declared_given (Refused n) = refused n 0
+abbrev pub declared_given : Result ℕ Fault → Judged ℕ
+declared_given (Ok at) = done at
+declared_given (Err fault) = refused (fault_number fault) 0

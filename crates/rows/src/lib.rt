@@ -7,11 +7,10 @@ ghost use Rattle.rows.specs.Rows.{base_mesh, declared_below, declared_for, decla
 
 use blocks::parts::{data_bounds, data_part};
 use blocks::tell::ROW_WIDTH;
-use fields::bounds::BoundsAnswer;
 use fields::field::bytes_at;
 use fields::limits::LARGEST_FILE;
-use fields::name::{NameField, is_same, name_at};
-use fields::numbers::{BAD_NAME, OUT_OF_ORDER, OUT_OF_RANGE, OVER_LIMIT, TRUNCATED};
+use fields::name::name_size;
+use fields::refusal::Fault;
 use mesh::declaration::mesh_name;
 
 // Block types.
@@ -19,22 +18,16 @@ const MESH_DECLARATION: u32 = 0xFFFFFF31;
 
 const BASE_MESH: u32 = 0xFFFFFF3B;
 
-// The offset of a base mesh's declaration in the file, or the number that refuses the base mesh.
-#[derive(Drop)]
-pub enum Declared {
-    At(usize),
-    Refused(u32),
-}
-
 // A word of a row, 0 where the table has no such row.
 fn word_in(table: &[u32], row: usize, i: usize) -> u32
     requires { i < row_width }
     ensures { result ≡ word_in table.now row i }
 {
     if row < table.len() / ROW_WIDTH {
-        return table[row * ROW_WIDTH + i];
+        table[row * ROW_WIDTH + i]
+    } else {
+        0
     }
-    0
 }
 
 // The offset of a row's block.
@@ -55,63 +48,60 @@ pub fn is_base_mesh(table: &[u32], row: usize) -> bool
 fn has_name(s: &[u8], name: &[u8]) -> bool
     ensures { result ≡ has_name s.now name.now }
 {
-    match name_at(s, 0) {
-        NameField::Missing => false,
-        NameField::Long => false,
-        NameField::Size(_) => is_same(mesh_name(s), name),
-    }
+    name_size(s, 0).is_ok() && mesh_name(s) == name
 }
 
+// Kept: file, table and row as parameters, since the promises of `declaration_of` and of what it calls name each.
 fn is_declaration(file: &[u8], table: &[u32], row: usize, name: &[u8]) -> bool
     ensures { result ≡ declares file.now table.now name.now row }
 {
-    if word_in(table, row, 1) != MESH_DECLARATION {
-        return false;
-    }
-    has_name(data_part(file, offset_in(table, row)), name)
+    word_in(table, row, 1) == MESH_DECLARATION
+        && has_name(data_part(file, offset_in(table, row)), name)
 }
 
 // The last mesh declaration of this name before a row, inside a chain or not.
-fn declaration_before(file: &[u8], table: &[u32], row: usize, name: &[u8]) -> Declared
+fn declaration_before(file: &[u8], table: &[u32], row: usize, name: &[u8]) -> Result<usize, Fault>
     ensures { declared_given result ≡ declared_below file.now table.now name.now row }
 {
-    let mut left = row;
-    while 0 < left {
-        left -= 1;
+    for left in (0..row).rev() {
         if is_declaration(file, table, left, name) {
-            return Declared::At(offset_in(table, left));
+            return Ok(offset_in(table, left));
         }
     }
-    Declared::Refused(BAD_NAME)
+    Err(Fault::BadName)
 }
 
 // The same for the base mesh with those data. Its own name may be cut (1) or too long (8).
-fn declaration_named(file: &[u8], table: &[u32], row: usize, continuation: &[u8]) -> Declared
+fn declaration_named(
+    file: &[u8],
+    table: &[u32],
+    row: usize,
+    continuation: &[u8],
+) -> Result<usize, Fault>
     ensures { declared_given result ≡ declared_of file.now table.now row continuation.now }
 {
-    match name_at(continuation, 0) {
-        NameField::Missing => Declared::Refused(TRUNCATED),
-        NameField::Long => Declared::Refused(BAD_NAME),
-        NameField::Size(_) => declaration_before(file, table, row, mesh_name(continuation)),
+    match name_size(continuation, 0) {
+        Err(refusal) => Err(refusal.fault),
+        Ok(_) => declaration_before(file, table, row, mesh_name(continuation)),
     }
 }
 
-// The declaration of the base mesh in a row: the last before it that has its name. A row past the table is 10, one that is no base
-// mesh 11.
-pub fn declaration_of(file: &[u8], table: &[u32], row: usize) -> Declared
+// The offset of the declaration of the base mesh in a row: the last before it that has its name. A row past the table is 10, one that is
+// no base mesh 11.
+pub fn declaration_of(file: &[u8], table: &[u32], row: usize) -> Result<usize, Fault>
     ensures { declared_given result ≡ declared_for file.now table.now row }
 {
     if LARGEST_FILE < file.len() {
-        return Declared::Refused(OVER_LIMIT);
+        return Err(Fault::OverLimit);
     }
     if table.len() / ROW_WIDTH <= row {
-        return Declared::Refused(OUT_OF_RANGE);
+        return Err(Fault::OutOfRange);
     }
     if !is_base_mesh(table, row) {
-        return Declared::Refused(OUT_OF_ORDER);
+        return Err(Fault::OutOfOrder);
     }
     match data_bounds(file, offset_in(table, row)) {
-        BoundsAnswer::Refused(e) => Declared::Refused(e.number),
-        BoundsAnswer::Found(b) => declaration_named(file, table, row, bytes_at(file, b.at, b.size)),
+        Err(e) => Err(e.fault),
+        Ok(b) => declaration_named(file, table, row, bytes_at(file, b.at, b.size)),
     }
 }

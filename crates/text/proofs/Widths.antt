@@ -2,8 +2,8 @@
 use mathlib.Core.Path.{◌≡◌, refl, ◌∙◌}
 use mathlib.Core.Bool.{Bool, true, false}
 use mathlib.Core.List.{[], ◌∷◌}
-use Prim.Native.Nat.{ℕ, zero, suc, ◌+◌, ◌/◌, ◌%◌, ◌^◌, ◌≤◌, ◌<◌, suc-le-suc}
-use native.Mathlib.Nat.{pow-suc, div-lt_iff_lt-mul, zero-lt-suc}
+use Prim.Native.Nat.{ℕ, zero, suc, ◌+◌, ◌*◌, ◌/◌, ◌%◌, ◌^◌, ◌≤◌, ◌<◌, suc-le-suc}
+use native.Mathlib.Nat.{pow-suc, one-le-pow, div-lt_iff_lt-mul, zero-lt-suc}
 use native.Mathlib.Omega.{arith}
 use lib.Dec.{ltb}
 use lib.ListN.{length, length-append}
@@ -35,6 +35,16 @@ width_some (suc most) n false e = rw e (omega arith)
 -- a digit less, a power less
 pub tenth : (k n : ℕ) → n < 10 ^ suc k → n / 10 < 10 ^ k
 tenth k n h = (div-lt_iff_lt-mul (zero-lt-suc 9)).1 (rw (pow-suc 10 k) at h)
+
+-- from its power of ten to the next a number has one digit more than the power
+pub width_of : (most k n : ℕ) → k ≤ most → 10 ^ k ≤ n → n < 10 * 10 ^ k → decimal_width most n ≡ k + 1
+width_of most zero n h p q = width_one most n (omega arith)
+width_of zero (suc k) n h p q = absurd (omega arith)
+width_of (suc most) (suc k) n h p q =
+    let e = pow-suc 10 k in
+    let w = width_of most k (n / 10) (omega arith) (omega (arith, e)) (omega (arith, e)) in
+    let some = one-le-pow k 10 (omega arith) in
+    width_more most n (omega (arith, e, some)) ∙ rw w (omega arith)
 
 -- a bound of the tenth's width is one of the number's
 width_step : (most k n : ℕ) (t : Bool) → ltb n 10 ≡ t → (10 ≤ n → decimal_width most (n / 10) ≤ k) → decimal_width (suc most) n ≤ suc k

@@ -3,14 +3,14 @@ ghost use Rattle.std.specs.Prelude.{◌≡◌, ◌+◌, ◌≤◌, ◌<◌, set}
 ghost use Rattle.std.proofs.lemmas.List.Edits.{sets};
 ghost use Rattle.text.specs.Digits.{digit_of, digits_of, decimal_width};
 
+use fields::words;
+
 // Stores a byte `i` places after `at`, where there is room for it.
 pub(crate) fn put(text: &mut [u8], at: usize, i: usize, byte: u8)
     ensures { text.new ≡ set text.old (at + i) byte }
 {
-    if at < text.len() {
-        if i < text.len() - at {
-            text[at + i] = byte;
-        }
+    if let Some(place) = at.checked_add(i) {
+        words::put(text, place, byte);
     }
 }
 
@@ -30,13 +30,10 @@ pub(crate) fn digit(d: u64) -> u8
 pub(crate) fn decimal_width(value: u64) -> usize
     ensures { result ≡ decimal_width 19 value }
 {
-    let mut rest = value;
-    let mut width: usize = 1;
-    while 10 <= rest {
-        rest = rest / 10;
-        width = width + 1;
+    match value.checked_ilog10() {
+        None => 1,
+        Some(power) => power as usize + 1,
     }
-    width
 }
 
 // Stores the last `width` digits of a number, as far as there is room, from the last digit down.
@@ -45,10 +42,8 @@ pub(crate) fn put_digits(text: &mut [u8], at: usize, base: u64, width: usize, va
     ensures { text.new ≡ sets text.old at (digits_of base width value) }
 {
     let mut rest = value;
-    let mut left = width;
-    while 0 < left {
-        left = left - 1;
-        put(text, at, left, digit(rest % base));
-        rest = rest / base;
+    for i in (0..width).rev() {
+        put(text, at, i, digit(rest % base));
+        rest /= base;
     }
 }

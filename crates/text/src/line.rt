@@ -10,10 +10,8 @@ pub fn put_word(text: &mut [u8], at: usize, word: &[u8]) -> usize
     ensures value { result ≡ length word.now }
     ensures text_after { text.new ≡ sets text.old at word.now }
 {
-    let mut i = 0;
-    while i < word.len() {
+    for i in 0..word.len() {
         put(text, at, i, word[i]);
-        i = i + 1;
     }
     word.len()
 }
@@ -34,7 +32,7 @@ pub fn put_hex(text: &mut [u8], at: usize, value: u32, end: u8) -> usize
     ensures value { result ≡ length (hex_field value end) }
     ensures text_after { text.new ≡ sets text.old at (hex_field value end) }
 {
-    put_digits(text, at, 16, 8, value as u64);
+    put_digits(text, at, 16, 8, u64::from(value));
     put(text, at, 8, end);
     9
 }

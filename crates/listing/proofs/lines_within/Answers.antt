@@ -5,8 +5,8 @@ use Rattle.listing.proofs.lines_within.Goals as goal
 
 pub returns-then-limit-file : goal.returns-then-limit-file
 unfolding file_within
-returns-then-limit-file c = simp (lt-ltb _ _ c.if-limit-file.true)
+returns-then-limit-file c = rw (c.at.ensures, lt-ltb _ _ c.if-limit-file.true)
 
 pub returns : goal.returns
 unfolding file_within
-returns c = simp (le-ltb _ _ c.if-limit-file.false) c.lines_size.ensures
+returns c = rw (le-ltb _ _ c.if-limit-file.false) c.lines_size.ensures

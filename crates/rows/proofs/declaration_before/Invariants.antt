@@ -4,6 +4,3 @@ use Rattle.rows.proofs.declaration_before.Given as goal
 
 abbrev pub invariant-loop-left : goal.invariant-loop-left
 invariant-loop-left l = declared_below l.file l.table l.name l.row ≡ declared_below l.file l.table l.name l.left
-
-abbrev pub decreases-loop-left : goal.decreases-loop-left
-decreases-loop-left l = l.left

@@ -5,8 +5,8 @@ use Rattle.rows.proofs.word_in.Goals as goal
 
 pub returns-then-row-table : goal.returns-then-row-table
 unfolding word_in
-returns-then-row-table c = simp (lt-ltb _ _ c.if-row-table.true)
+returns-then-row-table c = rw (lt-ltb _ _ c.if-row-table.true)
 
-pub returns : goal.returns
+pub returns-else-row-table : goal.returns-else-row-table
 unfolding word_in
-returns c = simp (le-ltb _ _ c.if-row-table.false)
+returns-else-row-table c = rw (le-ltb _ _ c.if-row-table.false)

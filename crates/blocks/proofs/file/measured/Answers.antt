@@ -3,5 +3,5 @@ use mathlib.Core.Path.{◌∙◌}
 use Rattle.blocks.proofs.Files.{told_whole}
 use Rattle.blocks.proofs.file.measured.Goals as goal
 
-pub returns : goal.returns
-returns c = record { result_value = c.walk_file.ensures.result_value ∙ told_whole c.args.file.now c.args.lines _ _; told_fits = c.walk_file.ensures.told_fits }
+pub returns-clause-result_value : goal.returns-clause-result_value
+returns-clause-result_value c = c.walk_file.ensures.result_value ∙ told_whole c.args.file.now c.args.lines _ _

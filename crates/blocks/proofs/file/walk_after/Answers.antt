@@ -17,4 +17,4 @@ returns c =
     let e = after_first_lem a.file.now a.first a.lines a.table.now a.text.now c.tell-told.new.table c.tell-told.new.text c.row_of.result c.tell-told.result
     c.row_of.ensures c.tell-told.ensures.value c.tell-told.ensures.table_after c.tell-told.ensures.text_after in
     let w = c.walk.ensures in
-    record { result_value = w.result_value ∙ ap answer_of (sym e); table_after = w.table_after ∙ ap (λ (r : Stored). r.table) (sym e); text_after = w.text_after ∙ ap (λ (r : Stored). r.text) (sym e); told_fits = fits_more _ _ c.walk.result c.requires.2 w.told_fits }
+    record { result_value = w.result_value ∙ ap answer_of (sym e); table_after = w.table_after ∙ ap (λ (r : Stored). r.table) (sym e); text_after = w.text_after ∙ ap (λ (r : Stored). r.text) (sym e); told_fits = fits_more _ _ _ c.requires.2 w.told_fits }

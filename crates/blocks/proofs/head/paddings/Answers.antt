@@ -1,13 +1,12 @@
 -- The first padding, and then the second.
-use Rattle.fields.proofs.Judging.{told}
 use Rattle.blocks.specs.Head.{paddings_of}
-use Rattle.blocks.specs.Padding.{check_given}
+use Rattle.fields.proofs.Judging.{handed_on}
 use Rattle.blocks.proofs.head.paddings.Goals as goal
 
-pub returns-in-Refused : goal.returns-in-Refused
+pub returns-in_err-zeros : goal.returns-in_err-zeros
 unfolding paddings_of
-returns-in-Refused c = simp (told check_given c.zeros.ensures c.in-Refused.is)
+returns-in_err-zeros c = rw (handed_on _ _ c.from_residual.ensures.1, ← c.in_err-zeros.ensures)
 
-pub returns-in-Fine : goal.returns-in-Fine
+pub returns : goal.returns
 unfolding paddings_of
-returns-in-Fine c = simp (told check_given c.zeros.ensures c.in-Fine.is) c.zeros-in-Fine.ensures
+returns c = rw (← c.in_ok-zeros.ensures) c.zeros-2.ensures

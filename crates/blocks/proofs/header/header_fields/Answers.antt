@@ -1,17 +1,16 @@
 -- Each field is read in turn.
-use Rattle.fields.proofs.Judging.{told}
-use Rattle.fields.specs.Field.{u32_given, u64_given}
 use Rattle.blocks.specs.Header.{fields_of}
+use Rattle.fields.proofs.Judging.{handed_on}
 use Rattle.blocks.proofs.header.header_fields.Goals as goal
 
-pub returns-in_default : goal.returns-in_default
-unfolding fields_of u32_given
-returns-in_default c = simp (told (u32_given _) c.u32_at.ensures c.in_default.is)
+pub returns-in_err-encoding : goal.returns-in_err-encoding
+unfolding fields_of
+returns-in_err-encoding c = rw (handed_on _ _ c.from_residual.ensures.1, ← c.in_err-encoding.ensures)
 
-pub returns-in_default-units_field : goal.returns-in_default-units_field
-unfolding fields_of u32_given u64_given
-returns-in_default-units_field c = simp (told (u32_given _) c.u32_at.ensures c.in-Value.is, told (u64_given _) c.units_field.ensures c.in_default-units_field.is)
+pub returns-in_err-units : goal.returns-in_err-units
+unfolding fields_of
+returns-in_err-units c = rw (handed_on _ _ c.from_residual-in_err-units.ensures.1, ← c.in_ok-encoding.ensures, ← c.in_err-units.ensures)
 
 pub returns : goal.returns
-unfolding fields_of u32_given u64_given
-returns c = simp (told (u32_given _) c.u32_at.ensures c.in-Value.is, told (u64_given _) c.units_field.ensures c.in-Value-units_field.is)
+unfolding fields_of
+returns c = rw (← c.in_ok-encoding.ensures, ← c.in_ok-units.ensures)

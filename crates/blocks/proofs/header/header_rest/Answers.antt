@@ -1,22 +1,21 @@
 -- The room, and then the paddings.
-use Rattle.fields.proofs.Judging.{told}
 use mathlib.Core.Path.{sym}
 use Rattle.blocks.specs.Header.{rest_of}
-use Rattle.blocks.specs.Padding.{check_given}
 use Rattle.blocks.proofs.Fits.{room_within}
+use Rattle.fields.proofs.Judging.{handed_on}
 use Rattle.blocks.proofs.header.header_rest.Goals as goal
 
 pub paddings-requires : goal.paddings-requires
-paddings-requires c = let w = room_within _ _ _ _ (told check_given c.room.ensures c.in-Fine.is) in (w.1, w.2)
+paddings-requires c = let w = room_within _ _ _ _ (sym c.in_ok-room.ensures) in (w.1, w.2)
 
-pub returns-in-Refused : goal.returns-in-Refused
+pub returns-in_err-room : goal.returns-in_err-room
 unfolding rest_of
-returns-in-Refused c = simp (sym c.extent_of-extent.ensures, told check_given c.room.ensures c.in-Refused.is)
+returns-in_err-room c = rw (handed_on _ _ c.from_residual.ensures.1, ← c.extent_of-extent.ensures, ← c.in_err-room.ensures)
 
-pub returns-in-Refused-paddings : goal.returns-in-Refused-paddings
+pub returns-in_err-paddings : goal.returns-in_err-paddings
 unfolding rest_of
-returns-in-Refused-paddings c = simp (sym c.extent_of-extent.ensures, told check_given c.room.ensures c.in-Fine.is, told check_given c.paddings.ensures c.in-Refused-paddings.is)
+returns-in_err-paddings c = rw (handed_on _ _ c.from_residual-in_err-paddings.ensures.1, ← c.extent_of-extent.ensures, ← c.in_ok-room.ensures, ← c.in_err-paddings.ensures)
 
-pub returns-in-Fine-paddings : goal.returns-in-Fine-paddings
+pub returns : goal.returns
 unfolding rest_of
-returns-in-Fine-paddings c = simp (sym c.extent_of-extent.ensures, told check_given c.room.ensures c.in-Fine.is, told check_given c.paddings.ensures c.in-Fine-paddings.is)
+returns c = rw (← c.extent_of-extent.ensures, ← c.in_ok-room.ensures, ← c.in_ok-paddings.ensures)

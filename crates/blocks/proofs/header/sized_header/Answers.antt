@@ -1,46 +1,25 @@
 -- Each part is judged in turn.
-use Rattle.fields.proofs.Judging.{told}
 use borrow.Author.Tests.{lt-ltb, le-ltb, eq-eqb, ne_eqb}
-use Rattle.blocks.specs.Header.{sized_of, sizes_given, fields_given}
+use Rattle.blocks.specs.Header.{sized_of}
+use Rattle.fields.proofs.Judging.{handed_on}
 use Rattle.blocks.proofs.header.sized_header.Goals as goal
 
 pub returns-then-head-data_size_of : goal.returns-then-head-data_size_of
 unfolding sized_of
-returns-then-head-data_size_of c = simp (← c.data_size_of.ensures, ne_eqb _ _ c.if-head-data_size_of.true)
+returns-then-head-data_size_of c = rw (c.at.ensures, ← c.data_size_of.ensures, ne_eqb _ _ c.if-head-data_size_of.true)
 
 pub returns-then-s-head : goal.returns-then-s-head
 unfolding sized_of
-returns-then-s-head c = simp (← c.data_size_of.ensures, eq-eqb _ _ c.if-head-data_size_of.false, lt-ltb _ _ c.if-s-head.true)
+returns-then-s-head c = rw (c.at-then-s-head.ensures, ← c.data_size_of.ensures, eq-eqb _ _ c.if-head-data_size_of.false, lt-ltb _ _ c.if-s-head.true)
 
-pub returns-in-Refused : goal.returns-in-Refused
+pub returns-in_err-sizes : goal.returns-in_err-sizes
 unfolding sized_of
-returns-in-Refused c =
-    simp (
-      ← c.data_size_of.ensures,
-      eq-eqb _ _ c.if-head-data_size_of.false,
-      le-ltb _ _ c.if-s-head.false,
-      told sizes_given c.size_fields.ensures c.in-Refused.is,
-    )
+returns-in_err-sizes c = rw (handed_on _ _ c.from_residual.ensures.1, ← c.data_size_of.ensures, eq-eqb _ _ c.if-head-data_size_of.false, le-ltb _ _ c.if-s-head.false, ← c.in_err-sizes.ensures)
 
-pub returns-in-Refused-header_fields : goal.returns-in-Refused-header_fields
+pub returns-in_err-fields : goal.returns-in_err-fields
 unfolding sized_of
-returns-in-Refused-header_fields c =
-    simp (
-      ← c.data_size_of.ensures,
-      eq-eqb _ _ c.if-head-data_size_of.false,
-      le-ltb _ _ c.if-s-head.false,
-      told sizes_given c.size_fields.ensures c.in-Found.is,
-      told fields_given c.header_fields.ensures c.in-Refused-header_fields.is,
-    )
+returns-in_err-fields c = rw (handed_on _ _ c.from_residual-in_err-fields.ensures.1, ← c.data_size_of.ensures, eq-eqb _ _ c.if-head-data_size_of.false, le-ltb _ _ c.if-s-head.false, ← c.in_ok-sizes.ensures, ← c.in_err-fields.ensures)
 
-pub returns-in-Found-header_fields : goal.returns-in-Found-header_fields
+pub returns : goal.returns
 unfolding sized_of
-returns-in-Found-header_fields c =
-    simp (
-      ← c.data_size_of.ensures,
-      eq-eqb _ _ c.if-head-data_size_of.false,
-      le-ltb _ _ c.if-s-head.false,
-      told sizes_given c.size_fields.ensures c.in-Found.is,
-      told fields_given c.header_fields.ensures c.in-Found-header_fields.is,
-    )
-    c.header_rest.ensures
+returns c = rw (← c.data_size_of.ensures, eq-eqb _ _ c.if-head-data_size_of.false, le-ltb _ _ c.if-s-head.false, ← c.in_ok-sizes.ensures, ← c.in_ok-fields.ensures) c.header_rest.ensures

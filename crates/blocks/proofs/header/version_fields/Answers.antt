@@ -1,32 +1,31 @@
 -- Each field is read and judged in turn.
-use Rattle.fields.proofs.Judging.{told}
-use Rattle.fields.specs.Field.{u16_given, u32_given}
 use borrow.Author.Tests.{eq-eqb, ne_eqb}
+use mathlib.Core.List.{[], ◌∷◌}
 use Rattle.blocks.specs.Header.{version_of}
 use Rattle.blocks.proofs.Members.{one_of, none_of}
-use mathlib.Core.List.{[], ◌∷◌}
+use Rattle.fields.proofs.Judging.{handed_on}
 use Rattle.blocks.proofs.header.version_fields.Goals as goal
 
-pub returns-in_default : goal.returns-in_default
-unfolding version_of u16_given
-returns-in_default c = simp (told (u16_given _) c.u16_at.ensures c.in_default.is)
+pub returns-in_err-major : goal.returns-in_err-major
+unfolding version_of
+returns-in_err-major c = rw (handed_on _ _ c.from_residual.ensures.1, ← c.in_err-major.ensures)
 
 pub returns-then-major-ne0 : goal.returns-then-major-ne0
-unfolding version_of u16_given
-returns-then-major-ne0 c = simp (told (u16_given _) c.u16_at.ensures c.in-Value.is, ne_eqb _ _ c.if-major-ne0.true)
+unfolding version_of
+returns-then-major-ne0 c = rw (c.at.ensures, ← c.in_ok-major.ensures, ne_eqb _ _ c.if-major-ne0.true)
 
-pub returns-in_default-u16_at : goal.returns-in_default-u16_at
-unfolding version_of u16_given
-returns-in_default-u16_at c = simp (told (u16_given _) c.u16_at.ensures c.in-Value.is, eq-eqb _ _ c.if-major-ne0.false, told (u16_given _) c.u16_at-2.ensures c.in_default-u16_at.is)
+pub returns-in_err-minor : goal.returns-in_err-minor
+unfolding version_of
+returns-in_err-minor c = rw (handed_on _ _ c.from_residual-in_err-minor.ensures.1, ← c.in_ok-major.ensures, eq-eqb _ _ c.if-major-ne0.false, ← c.in_err-minor.ensures)
 
-pub returns-in_default-u32_at : goal.returns-in_default-u32_at
-unfolding version_of u16_given u32_given
-returns-in_default-u32_at c = simp (told (u16_given _) c.u16_at.ensures c.in-Value.is, eq-eqb _ _ c.if-major-ne0.false, told (u16_given _) c.u16_at-2.ensures c.in-Value-u16_at.is, told (u32_given _) c.u32_at.ensures c.in_default-u32_at.is)
+pub returns-in_err-profile : goal.returns-in_err-profile
+unfolding version_of
+returns-in_err-profile c = rw (handed_on _ _ c.from_residual-in_err-profile.ensures.1, ← c.in_ok-major.ensures, eq-eqb _ _ c.if-major-ne0.false, ← c.in_ok-minor.ensures, ← c.in_err-profile.ensures)
 
 pub returns-in-0 : goal.returns-in-0
-unfolding version_of u16_given u32_given
-returns-in-0 c = simp (told (u16_given _) c.u16_at.ensures c.in-Value.is, eq-eqb _ _ c.if-major-ne0.false, told (u16_given _) c.u16_at-2.ensures c.in-Value-u16_at.is, told (u32_given _) c.u32_at.ensures c.in-Value-u32_at.is) (rw (one_of c.in-Value-u32_at.profile 0 (2 ∷ 8 ∷ 10 ∷ []) c.in-0.is))
+unfolding version_of
+returns-in-0 c = rw (← c.in_ok-major.ensures, eq-eqb _ _ c.if-major-ne0.false, ← c.in_ok-minor.ensures, ← c.in_ok-profile.ensures, one_of c.in_ok-profile.profile 0 (2 ∷ 8 ∷ 10 ∷ []) c.in-0.is)
 
-pub returns-in_default-profile : goal.returns-in_default-profile
-unfolding version_of u16_given u32_given
-returns-in_default-profile c = simp (told (u16_given _) c.u16_at.ensures c.in-Value.is, eq-eqb _ _ c.if-major-ne0.false, told (u16_given _) c.u16_at-2.ensures c.in-Value-u16_at.is, told (u32_given _) c.u32_at.ensures c.in-Value-u32_at.is) (rw (none_of c.in-Value-u32_at.profile 0 (2 ∷ 8 ∷ 10 ∷ []) c.in_default-profile.in_default-profile-own.rest.1))
+pub returns-in_default : goal.returns-in_default
+unfolding version_of
+returns-in_default c = rw (c.at-in_default.ensures, ← c.in_ok-major.ensures, eq-eqb _ _ c.if-major-ne0.false, ← c.in_ok-minor.ensures, ← c.in_ok-profile.ensures, none_of c.in_ok-profile.profile 0 (2 ∷ 8 ∷ 10 ∷ []) c.in_default.in_default-own.rest.1)

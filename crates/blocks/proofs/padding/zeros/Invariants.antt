@@ -5,6 +5,3 @@ use Rattle.blocks.proofs.padding.zeros.Given as goal
 
 abbrev pub invariant-loop-at : goal.invariant-loop-at
 invariant-loop-at l = zeros_of (l.to - l.from) l.s l.from ≡ zeros_of (l.to - l.at) l.s l.at
-
-abbrev pub decreases-loop-at : goal.decreases-loop-at
-decreases-loop-at l = l.to - l.at

@@ -1,17 +1,17 @@
 -- The leading numbers decide, and then the block's parts.
-use Rattle.fields.proofs.Judging.{told}
-use Rattle.blocks.specs.Head.{head_given}
+use mathlib.Core.Path.{sym}
 use Rattle.blocks.specs.Parts.{chain_name_bounds}
 use Rattle.blocks.proofs.Fits.{head_in_within}
+use Rattle.fields.proofs.Judging.{handed_on}
 use Rattle.blocks.proofs.parts.chain_name_bounds.Goals as goal
 
 pub chain_name_within-requires : goal.chain_name_within-requires
-chain_name_within-requires c = (head_in_within _ _ _ (told head_given c.head_in.ensures c.in-Found.is)).1
+chain_name_within-requires c = (head_in_within _ _ _ (sym c.in_ok-head.ensures)).1
 
-pub returns-in-Refused : goal.returns-in-Refused
+pub returns-in_err-head : goal.returns-in_err-head
 unfolding chain_name_bounds
-returns-in-Refused c = simp (told head_given c.head_in.ensures c.in-Refused.is)
+returns-in_err-head c = rw (handed_on _ _ c.from_residual.ensures.1, ← c.in_err-head.ensures)
 
-pub returns-in-Found : goal.returns-in-Found
+pub returns : goal.returns
 unfolding chain_name_bounds
-returns-in-Found c = simp (told head_given c.head_in.ensures c.in-Found.is) c.chain_name_within.ensures
+returns c = rw (← c.in_ok-head.ensures) c.chain_name_within.ensures

@@ -1,21 +1,21 @@
 -- The leading numbers decide, and then the room.
+use mathlib.Core.Path.{sym}
 use native.Mathlib.Omega.{arith}
-use Rattle.fields.proofs.Judging.{told}
-use Rattle.blocks.specs.Head.{head_given}
 use Rattle.blocks.specs.Parts.{data_bounds}
 use Rattle.blocks.proofs.Fits.{head_in_within}
+use Rattle.fields.proofs.Judging.{handed_on}
 use Rattle.blocks.proofs.parts.data_bounds.Goals as goal
 
 pub overflow_add-at : goal.overflow_add-at
-overflow_add-at c = omega (arith, head_in_within _ _ _ (told head_given c.head_in.ensures c.in-Found.is))
+overflow_add-at c = omega (arith, head_in_within _ _ _ (sym c.in_ok-head.ensures))
 
 pub within-requires : goal.within-requires
-within-requires c = (head_in_within _ _ _ (told head_given c.head_in.ensures c.in-Found.is)).0
+within-requires c = (head_in_within _ _ _ (sym c.in_ok-head.ensures)).0
 
-pub returns-in-Refused : goal.returns-in-Refused
+pub returns-in_err-head : goal.returns-in_err-head
 unfolding data_bounds
-returns-in-Refused c = simp (told head_given c.head_in.ensures c.in-Refused.is)
+returns-in_err-head c = rw (handed_on _ _ c.from_residual.ensures.1, ← c.in_err-head.ensures)
 
-pub returns-in-Found : goal.returns-in-Found
+pub returns : goal.returns
 unfolding data_bounds
-returns-in-Found c = simp (told head_given c.head_in.ensures c.in-Found.is) c.within.ensures
+returns c = rw (← c.in_ok-head.ensures) c.within.ensures

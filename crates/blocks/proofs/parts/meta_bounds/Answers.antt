@@ -1,17 +1,17 @@
 -- The leading numbers decide, and then the block's parts.
-use Rattle.fields.proofs.Judging.{told}
-use Rattle.blocks.specs.Head.{head_given}
+use mathlib.Core.Path.{sym}
 use Rattle.blocks.specs.Parts.{meta_bounds}
 use Rattle.blocks.proofs.Fits.{head_in_within}
+use Rattle.fields.proofs.Judging.{handed_on}
 use Rattle.blocks.proofs.parts.meta_bounds.Goals as goal
 
 pub meta_within-requires : goal.meta_within-requires
-meta_within-requires c = (head_in_within _ _ _ (told head_given c.head_in.ensures c.in-Found.is)).1
+meta_within-requires c = (head_in_within _ _ _ (sym c.in_ok-head.ensures)).1
 
-pub returns-in-Refused : goal.returns-in-Refused
+pub returns-in_err-head : goal.returns-in_err-head
 unfolding meta_bounds
-returns-in-Refused c = simp (told head_given c.head_in.ensures c.in-Refused.is)
+returns-in_err-head c = rw (handed_on _ _ c.from_residual.ensures.1, ← c.in_err-head.ensures)
 
-pub returns-in-Found : goal.returns-in-Found
+pub returns : goal.returns
 unfolding meta_bounds
-returns-in-Found c = simp (told head_given c.head_in.ensures c.in-Found.is) c.meta_within.ensures
+returns c = rw (← c.in_ok-head.ensures) c.meta_within.ensures

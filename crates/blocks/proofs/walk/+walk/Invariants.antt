@@ -15,9 +15,6 @@ invariant-loop-left l = record {
   bytes_told : l.told.bytes ≤ 9 * l.at;
   table_length : length l.table ≡ length l.initial.table;
   text_length : length l.text ≡ length l.initial.text;
-  still_told : stored l.initial.table l.initial.text l.initial.told l.lines (walk_of l.remaining l.initial.left l.s l.initial.at false)
-      ≡ stored l.table l.text l.told l.lines (walk_of l.remaining l.left l.s l.at l.continued);
+  still_told : stored l.initial.table l.initial.text l.initial.told l.lines (walk_of l.remaining l.initial._left l.s l.initial.at false)
+      ≡ stored l.table l.text l.told l.lines (walk_of l.remaining l._left l.s l.at l.continued);
 }
-
-abbrev pub decreases-loop-left : goal.decreases-loop-left
-decreases-loop-left l = l.left

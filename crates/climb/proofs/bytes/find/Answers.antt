@@ -6,26 +6,17 @@ use Rattle.climb.proofs.bytes.find.Goals as goal
 pub loop-i-init : goal.loop-i-init
 loop-i-init c = (c.requires, λ r f. f)
 
-pub bounds-s-i : goal.bounds-s-i
-bounds-s-i c = omega arith
-
 pub returns-then-s-i : goal.returns-then-s-i
 returns-then-s-i c =
     let l = c.loop-i in
-    l.invariant.1 l.i (found_here _ c.args.s.now l.i c.loop-i-test.true c.if-s-i.true)
-
-pub overflow_add-i : goal.overflow_add-i
-overflow_add-i c = omega arith
-
-pub loop-i-smaller : goal.loop-i-smaller
-loop-i-smaller c = omega arith
+    (omega arith, l.invariant.1 l.i (found_here _ c.args.s.now l.i (omega arith) c.if-s-i.true))
 
 pub loop-i-preserved : goal.loop-i-preserved
 loop-i-preserved c =
     let l = c.loop-i in
-    (omega arith, λ r f. l.invariant.1 r (found_more _ c.args.s.now l.i c.loop-i-test.true c.if-s-i.false r f))
+    (omega arith, λ r f. l.invariant.1 r (found_more _ c.args.s.now l.i (omega arith) c.if-s-i.false r f))
 
 pub returns : goal.returns
 returns c =
     let l = c.loop-i in
-    l.invariant.1 l.i (found_none _ c.args.s.now l.i l.invariant.0 c.loop-i-test.false)
+    l.invariant.1 _ (found_none _ c.args.s.now l.i l.invariant.0 (omega arith))

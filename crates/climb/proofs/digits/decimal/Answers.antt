@@ -1,19 +1,16 @@
 -- Digits that are there, and start with no zero but a single one.
-use mathlib.Core.Path.{◌∙◌}
-use mathlib.Core.Logic.{inl, inr}
+use mathlib.Core.Path.{◌∙◌, sym}
+use borrow.Author.Tests.{eqb-false, eqb-true}
 use Rattle.climb.proofs.Numerals.{decimal_empty, decimal_whole, decimal_zero, leads}
 use Rattle.climb.proofs.digits.decimal.Goals as goal
-use Rattle.climb.proofs.digits.decimal.Goals.{then-field-eq48+else-field-gt1, else-field-eq48}
+use Rattle.climb.proofs.digits.decimal.Goals.{then-is_empty-via-then-is_empty, then-is_empty-via-else-is_empty+then-field-gt1}
 
-pub returns-then-field-eq0 : goal.returns-then-field-eq0
-returns-then-field-eq0 c = decimal_empty c.args.field.now c.if-field-eq0.true
-
-pub returns-then-field-gt1 : goal.returns-then-field-gt1
-returns-then-field-gt1 c = decimal_zero c.args.field.now c.if-field-eq48.true c.if-field-gt1.true
+pub returns-then-is_empty : goal.returns-then-is_empty
+returns-then-is_empty c =
+    elim c.then-is_empty.branch [
+      | then-is_empty-via-then-is_empty w ↦ decimal_empty c.args.field.now (eqb-true _ _ (sym w.if-is_empty.ensures))
+      | then-is_empty-via-else-is_empty+then-field-gt1 w ↦ decimal_zero c.args.field.now w.if-field-gt1.true.0 w.if-field-gt1.true.1
+    ]
 
 pub returns : goal.returns
-returns c =
-    c.value_of.ensures ∙ decimal_whole c.args.field.now c.if-field-eq0.false (leads c.args.field.now (elim c.if-field-eq48.branch [
-      | then-field-eq48+else-field-gt1 w ↦ inl (w.if-field-eq48.true, w.if-field-gt1.false)
-      | else-field-eq48 w ↦ inr w.if-field-eq48.false
-    ]))
+returns c = c.value_of.ensures ∙ decimal_whole c.args.field.now (eqb-false _ _ (sym c.if-is_empty.ensures)) (leads c.args.field.now c.if-field-gt1.either)

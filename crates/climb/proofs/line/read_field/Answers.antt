@@ -1,36 +1,29 @@
--- By the rule's base, and each test in turn.
-use mathlib.Core.Path.{◌∙◌, ap, sym}
-use Rattle.climb.specs.Inside.{number_given}
-use Rattle.climb.specs.declared.digits.Number.{Number}
+-- By the rule, and each test in turn.
+use mathlib.Core.Path.{sym}
 use Rattle.climb.proofs.Lines.{field_high, field_kept, field_low, field_none, field_pattern}
 use Rattle.climb.proofs.Numerals.{bad_told, value_told_lem}
 use Rattle.climb.proofs.line.read_field.Goals as goal
+use Rattle.climb.proofs.line.read_field.Goals.{else-least-value-via-then-least-value+else-value-most, else-least-value-via-else-least-value}
 
-pub returns-then-rule-eq16 : goal.returns-then-rule-eq16
-returns-then-rule-eq16 c =
-    let a = c.args in
-    λ line. ap (λ (x : Number). number_given line x) c.pattern.ensures ∙ field_pattern a.rule a.field.now line c.if-rule-eq16.true
+pub returns-in-Pattern : goal.returns-in-Pattern
+returns-in-Pattern c = λ line. rw (c.pattern.ensures, c.in-Pattern.is) (field_pattern c.args.field.now line)
 
-pub returns-in_default : goal.returns-in_default
-returns-in_default c =
-    let a = c.args in
-    let e = bad_told _ _ (sym c.decimal.ensures ∙ c.in_default.is) in
-    λ line. field_none a.rule a.field.now line c.if-rule-eq16.false e
+pub returns-in_err-value-in-Decimal : goal.returns-in_err-value-in-Decimal
+returns-in_err-value-in-Decimal c =
+    let e = bad_told _ _ (sym c.in_err-value-in-Decimal.ensures) in
+    λ line. rw (c.from_residual.ensures, c.in-Decimal.is) (field_none c.args.field.now line c.in-Decimal.least c.in-Decimal.most e)
 
-pub returns-then-value-rule : goal.returns-then-value-rule
-returns-then-value-rule c =
-    let a = c.args in
-    let e = value_told_lem _ _ _ (sym c.decimal.ensures ∙ c.in-Value.is) in
-    λ line. field_low a.rule a.field.now line c.if-rule-eq16.false _ e.0 e.1 c.if-value-rule.true
+pub returns-then-value-most : goal.returns-then-value-most
+returns-then-value-most c =
+    let e = value_told_lem _ _ _ (sym c.in_ok-value-in-Decimal.ensures) in
+    λ line. rw c.in-Decimal.is (field_kept c.args.field.now line c.in-Decimal.least c.in-Decimal.most _ e.0 e.1 c.if-least-value.true c.if-value-most.true)
 
-pub returns-then-rule-value : goal.returns-then-rule-value
-returns-then-rule-value c =
+pub returns-else-least-value : goal.returns-else-least-value
+returns-else-least-value c =
     let a = c.args in
-    let e = value_told_lem _ _ _ (sym c.decimal.ensures ∙ c.in-Value.is) in
-    λ line. field_high a.rule a.field.now line c.if-rule-eq16.false _ e.0 e.1 c.if-rule-value.true
-
-pub returns : goal.returns
-returns c =
-    let a = c.args in
-    let e = value_told_lem _ _ _ (sym c.decimal.ensures ∙ c.in-Value.is) in
-    λ line. field_kept a.rule a.field.now line c.if-rule-eq16.false _ e.0 e.1 c.if-value-rule.false c.if-rule-value.false
+    let d = c.in-Decimal in
+    let e = value_told_lem _ _ _ (sym c.in_ok-value-in-Decimal.ensures) in
+    λ line. elim c.else-least-value.branch [
+      | else-least-value-via-then-least-value+else-value-most w ↦ rw d.is (field_high a.field.now line d.least d.most _ e.0 e.1 w.if-value-most.false)
+      | else-least-value-via-else-least-value w ↦ rw d.is (field_low a.field.now line d.least d.most _ e.0 e.1 w.if-least-value.false)
+    ]

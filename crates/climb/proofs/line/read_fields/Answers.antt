@@ -1,60 +1,46 @@
 -- The invariant: the fields that are left, stored after those that were read, are the whole line's.
 use Prim.Native.Nat.{◌+◌}
-use mathlib.Core.Path.{◌∙◌, ap, refl, sym}
-use native.Mathlib.Numerals.{unary_clauses}
+use mathlib.Core.Path.{◌≡◌, ◌∙◌, sym}
 use native.Mathlib.Omega.{arith}
-use borrow.Author.Tests.{le-ltb, lt-ltb}
-use lib.ListN.{length, length-set}
-use Rattle.climb.specs.Inside.{number_given}
-use Rattle.climb.specs.declared.digits.Number.{Number}
-use Rattle.climb.proofs.Lines.{field_told, fields_bad, fields_ended, fields_missing, fields_more, fields_none}
+use lib.ListN.{drop_of_length-le}
+use Rattle.std.specs.Prelude.{None, Some}
+use Rattle.climb.specs.Inside.{FoundAt}
+use Rattle.climb.specs.Lines.{tab}
+use Rattle.climb.proofs.Finding.{found_has, found_or}
+use Rattle.climb.proofs.Lines.{fields_bad, fields_ended, fields_missing, fields_more, rules_cons}
 use Rattle.climb.proofs.line.read_fields.Goals as goal
-
-pub loop-i-init : goal.loop-i-init
-loop-i-init c = (omega arith, omega arith, refl, λ n. simp unary_clauses)
-
-pub shape_of-table-then-line-stop : goal.shape_of-table-then-line-stop
-shape_of-table-then-line-stop c = c.loop-i.invariant.2
-
-pub returns-then-line-stop : goal.returns-then-line-stop
-returns-then-line-stop c =
-    let l = c.loop-i in
-    let a = c.args in
-    let f = c.find-stop.ensures in
-    λ n. sym (l.invariant.3 n ∙ fields_missing a.rules.now a.line.now a.count l.i l.at l.table a.to n c.loop-i-test.true (f.there ∙ le-ltb _ _ c.if-line-stop.true))
-
-pub shape_of-table-in_default : goal.shape_of-table-in_default
-shape_of-table-in_default c = c.loop-i.invariant.2
 
 pub returns-in_default : goal.returns-in_default
 returns-in_default c =
     let l = c.loop-i in
     let a = c.args in
-    let f = c.find-stop.ensures in
-    let e = field_told a.line.now a.rules.now (c.find-stop.result + 1) c.find-end.result l.i c.rule_at.result c.read_field.result c.find-end.ensures c.rule_at.ensures c.read_field.ensures in
-    λ n. sym (l.invariant.3 n ∙ fields_bad a.rules.now a.line.now a.count l.i l.at l.table a.to n (c.find-stop.result + 1)
-    c.loop-i-test.true (f.there ∙ lt-ltb _ _ c.if-line-stop.false) f.after_it (ap (λ (x : Number). number_given n x) (sym c.in_default.is) ∙ e n))
+    λ n. sym (l.invariant.1 n ∙ rw (rules_cons a.rules.now l.i c.loop-i-test.true)
+    (fields_missing a.line.now l.at l.table (a.to + l.i) n _ _ (found_has tab a.line.now l.at None c.in_default.ensures)))
+
+pub returns-in_default-read_field : goal.returns-in_default-read_field
+returns-in_default-read_field c =
+    let l = c.loop-i in
+    let a = c.args in
+    let f : FoundAt tab a.line.now (c.in-Some.stop + 1) c.unwrap_or-end.result = rw c.unwrap_or-end.ensures (found_or tab a.line.now (c.in-Some.stop + 1) _ c.find-in-loop-i.ensures) in
+    λ n. sym (l.invariant.1 n ∙ rw (rules_cons a.rules.now l.i c.loop-i-test.true)
+    (fields_bad a.line.now l.at l.table (a.to + l.i) n _ _ (c.in-Some.stop + 1) (found_has tab a.line.now l.at (Some c.in-Some.stop) c.in-Some.ensures)
+    c.in-Some.ensures.1.after_it (rw f.before_it (c.in_default-read_field.ensures n))))
 
 pub loop-i-preserved : goal.loop-i-preserved
 loop-i-preserved c =
     let l = c.loop-i in
     let a = c.args in
-    let f = c.find-stop.ensures in
-    let e = field_told a.line.now a.rules.now (c.find-stop.result + 1) c.find-end.result l.i c.rule_at.result c.read_field.result c.find-end.ensures c.rule_at.ensures c.read_field.ensures in
-    let p = c.put.ensures in (
-      omega arith,
-      omega arith,
-      ap length p ∙ simp length-set l.invariant.2,
-      λ n. l.invariant.3 n ∙ fields_more a.rules.now a.line.now a.count l.i l.at l.table a.to n (c.find-stop.result + 1)
-          c.loop-i-test.true (f.there ∙ lt-ltb _ _ c.if-line-stop.false) f.after_it _ (ap (λ (x : Number). number_given n x) (sym c.in-Value.is) ∙ e n) ∙ rw p,
+    let f : FoundAt tab a.line.now (c.in-Some.stop + 1) c.unwrap_or-end.result = rw c.unwrap_or-end.ensures (found_or tab a.line.now (c.in-Some.stop + 1) _ c.find-in-loop-i.ensures) in
+    let next : a.to + (l.i + 1) ≡ a.to + l.i + 1 = omega arith in (
+      omega (arith, c.in-Some.ensures.0),
+      λ n. rw (c.put.ensures, next) (l.invariant.1 n ∙ rw (rules_cons a.rules.now l.i c.loop-i-test.true)
+          (fields_more a.line.now l.at l.table (a.to + l.i) n _ _ (c.in-Some.stop + 1) (found_has tab a.line.now l.at (Some c.in-Some.stop) c.in-Some.ensures)
+          c.in-Some.ensures.1.after_it _ (rw f.before_it (c.in-Some-read_field.ensures n)))),
     )
-
-pub shape_of-table : goal.shape_of-table
-shape_of-table c = c.loop-i.invariant.2
 
 pub returns : goal.returns
 returns c =
     let l = c.loop-i in
     let a = c.args in
-    λ n. fields_ended n (length a.line.now) c.find.result l.table
-    ∙ sym (l.invariant.3 n ∙ fields_none a.rules.now a.line.now a.count l.i l.at l.table a.to n c.loop-i-test.false _ c.find.ensures.there)
+    let none = drop_of_length-le a.rules.now c.loop-i-test.false in
+    λ n. fields_ended a.line.now l.at l.table (a.to + l.i) n _ c.find-2.ensures c.is_none.result c.is_none.ensures ∙ sym (rw none at (l.invariant.1 n))

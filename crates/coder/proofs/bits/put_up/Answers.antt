@@ -7,7 +7,7 @@ pub loop-left-preserved : goal.loop-left-preserved
 loop-left-preserved c =
     let l = c.loop-left in
     let n = c.taken-n.result in (
-      rw (c.high_bits-rest.ensures, c.put_part.ensures, c.low_bits.ensures.0)
+      rw (c.from-at.ensures, c.from-left.ensures, c.high_bits-rest.ensures, c.put_part.ensures, c.low_bits.ensures.0)
           (up_turn n l.left l.rest l.buf l.at (search rules) ∙ l.invariant.0),
       search rules,
       search rules,

@@ -10,12 +10,12 @@ overflow_sub-result c = let a = c.args in omega (arith, shl_small a.place 1 (sea
 pub overflow_add-result : goal.overflow_add-result
 overflow_add-result c =
     let a = c.args in
-    omega (arith, with_bits_at a.place a.count a.value a.byte (search rules) (search rules), parts_below a.place a.count a.value a.byte (search rules) (search rules))
+    rw c.from.ensures (omega (arith, with_bits_at a.place a.count a.value a.byte (search rules) (search rules), parts_below a.place a.count a.value a.byte (search rules) (search rules)))
 
-pub overflow_cast-result-2 : goal.overflow_cast-result-2
-overflow_cast-result-2 c =
+pub overflow_cast-result : goal.overflow_cast-result
+overflow_cast-result c =
     let a = c.args in
-    omega (arith, with_bits_at a.place a.count a.value a.byte (search rules) (search rules), parts_below a.place a.count a.value a.byte (search rules) (search rules))
+    rw c.from.ensures (omega (arith, with_bits_at a.place a.count a.value a.byte (search rules) (search rules), parts_below a.place a.count a.value a.byte (search rules) (search rules)))
 
 pub returns : goal.returns
-returns c = let a = c.args in with_bits_at a.place a.count a.value a.byte (search rules) (search rules)
+returns c = let a = c.args in rw c.from.ensures (with_bits_at a.place a.count a.value a.byte (search rules) (search rules))

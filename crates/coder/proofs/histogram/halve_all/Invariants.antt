@@ -1,9 +1,8 @@
-use Rattle.std.proofs.Common.{◌≡◌, ◌-◌, ◌≤◌, ◌++◌, map, length, take, drop}
+use Rattle.std.proofs.Common.{◌≡◌, ◌++◌, length, map, take, drop}
 use Rattle.coder.specs.Histogram.{halve}
 use Rattle.coder.proofs.histogram.halve_all.Given as goal
 
-abbrev pub invariant-loop-i : goal.invariant-loop-i
-invariant-loop-i l = (take l.i l.h ++ map halve (drop l.i l.h) ≡ map halve l.initial.h) × (l.i ≤ 257) × (length l.h ≡ 257)
-
-abbrev pub decreases-loop-i : goal.decreases-loop-i
-decreases-loop-i l = 257 - l.i
+abbrev pub invariant-loop-frequency : goal.invariant-loop-frequency
+invariant-loop-frequency l =
+    let h = l.frequency-items in
+    (take l.frequency-index h ++ map halve (drop l.frequency-index h) ≡ map halve l.fn.h) × (length h ≡ 257)

@@ -6,7 +6,7 @@ use Rattle.coder.proofs.histogram.raise_after.Goals as goal
 pub raise-requires-then-symbol-eq0 : goal.raise-requires-then-symbol-eq0
 raise-requires-then-symbol-eq0 c =
     let a = c.args in
-    record { h_len = search rules; well_formed_histogram = rw c.raise.ensures (raised_formed a.h.now a.symbol (search rules)) }
+    (search rules, record { formed = rw c.raise.ensures (raised_formed a.h.now a.symbol (search rules)); summed = search rules })
 
 pub returns-then-symbol-eq0 : goal.returns-then-symbol-eq0
 returns-then-symbol-eq0 c =

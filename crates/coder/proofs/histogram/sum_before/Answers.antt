@@ -8,10 +8,13 @@ pub loop-i-init : goal.loop-i-init
 unfolding sum
 loop-i-init c = search rules
 
+pub overflow_add-total : goal.overflow_add-total
+overflow_add-total c = omega (arith, c.loop-i.invariant.1, c.requires)
+
 pub loop-i-preserved : goal.loop-i-preserved
 loop-i-preserved c =
     let l = c.loop-i in
-    (rw (c.wide-total.ensures.0, l.invariant.0) (sum_more c.args.h.now l.i (search rules)), search rules, search rules, search rules)
+    (rw (c.from-total.ensures, l.invariant.0) (sum_more c.args.h.now l.i (omega (arith, c.requires))), omega (arith, l.invariant.1))
 
 pub returns : goal.returns
 returns c =

@@ -1,9 +1,6 @@
-use Rattle.std.proofs.Common.{◌≡◌, ◌-◌, ◌*◌, ◌≤◌, length, take}
+use Rattle.std.proofs.Common.{◌≡◌, ◌*◌, ◌≤◌, take}
 use Rattle.coder.specs.Histogram.{sum}
 use Rattle.coder.proofs.histogram.sum_before.Given as goal
 
 abbrev pub invariant-loop-i : goal.invariant-loop-i
-invariant-loop-i l = (l.total ≡ sum (take l.i l.h)) × (l.total ≤ l.i * 0xFFFFFFFF) × (l.i ≤ l.count) × (length l.h ≡ 257)
-
-abbrev pub decreases-loop-i : goal.decreases-loop-i
-decreases-loop-i l = l.count - l.i
+invariant-loop-i l = (l.total ≡ sum (take l.i l.h)) × (l.total ≤ l.i * 0xFFFFFFFF)

@@ -10,10 +10,10 @@ overflow_add-h c =
     let l = c.args.h.now in
     rw c.halve_all.ensures (omega (arith, weight_le (map halve l) 0, halved_half l))
 
-pub returns-then-total : goal.returns-then-total
+pub returns-then-total-from : goal.returns-then-total-from
 unfolding thinned
-returns-then-total c = rw (c.halve_all.ensures, le-leb 0x1FFF (sum c.args.h.now) (search rules))
+returns-then-total-from c = rw (c.halve_all.ensures, le-leb 0x1FFF (sum c.args.h.now) (search rules))
 
-pub returns-else-total : goal.returns-else-total
+pub returns-else-total-from : goal.returns-else-total-from
 unfolding thinned
-returns-else-total c = rw (lt-leb 0x1FFF (sum c.args.h.now) (search rules))
+returns-else-total-from c = rw (lt-leb 0x1FFF (sum c.args.h.now) (search rules))

@@ -6,10 +6,7 @@ use Rattle.coder.proofs.reverse.reversed.Goals as goal
 pub bounds-table-b : goal.bounds-table-b
 bounds-table-b c = omega (arith, ap (λ (l : List ℕ). length l) c.requires.0, table_length)
 
-pub overflow_cast-result-2 : goal.overflow_cast-result-2
-overflow_cast-result-2 c = omega (arith, c.type_inv.table c.args.b)
-
 pub returns : goal.returns
 returns c =
-    let e = ap (λ (l : List ℕ). get_or l c.args.b 0) c.requires.0 ∙ table_at c.args.b c.requires.1 in
+    let e = c.from.ensures ∙ ap (λ (l : List ℕ). get_or l c.args.b 0) c.requires.0 ∙ table_at c.args.b c.requires.1 in
     record { value = e; upper_bound = omega (arith, e, reversed_small c.args.b) }

@@ -1,21 +1,20 @@
--- Each answer of `name_at` decides the bounds.
+-- A size that was read gives the bounds.
+use mathlib.Core.Path.{sym}
 use native.Mathlib.Omega.{arith}
-use Rattle.fields.proofs.Judging.{told, name_within}
-use Rattle.fields.specs.Name.{name_given, name_bounds}
+use Rattle.fields.proofs.Judging.{name_within}
+use Rattle.fields.specs.Name.{name_bounds}
+use Rattle.std.proofs.lemmas.Result.{err_from_is_err_and}
 use Rattle.fields.proofs.name.name_bounds.Goals as goal
 
+pub returns-in_err-size : goal.returns-in_err-size
+unfolding name_bounds
+returns-in_err-size c =
+    let p = err_from_is_err_and c.from_residual.result c.from_residual.ensures.1 in
+    rw (p.1, p.2, ← c.in_err-size.ensures)
+
 pub overflow_add-result : goal.overflow_add-result
-unfolding name_given
-overflow_add-result c = omega (arith, (name_within _ _ _ (told (name_given _) c.name_at.ensures c.in-Size.is)).0)
+overflow_add-result c = omega (arith, (name_within _ _ _ (sym c.in_ok-size.ensures)).0)
 
-pub returns-in-Missing : goal.returns-in-Missing
-unfolding name_bounds name_given
-returns-in-Missing c = simp (told (name_given _) c.name_at.ensures c.in-Missing.is)
-
-pub returns-in-Long : goal.returns-in-Long
-unfolding name_bounds name_given
-returns-in-Long c = simp (told (name_given _) c.name_at.ensures c.in-Long.is)
-
-pub returns-in-Size : goal.returns-in-Size
-unfolding name_bounds name_given
-returns-in-Size c = simp (told (name_given _) c.name_at.ensures c.in-Size.is)
+pub returns : goal.returns
+unfolding name_bounds
+returns c = rw (← c.in_ok-size.ensures)

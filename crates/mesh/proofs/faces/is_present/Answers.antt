@@ -5,21 +5,21 @@ use Rattle.mesh.specs.Corners.{present}
 use Rattle.mesh.proofs.Presence.{layer_present}
 use Rattle.mesh.proofs.faces.is_present.Goals as goal
 
-pub returns-then-field-eq0 : goal.returns-then-field-eq0
+pub returns-in-0 : goal.returns-in-0
 unfolding present
-returns-then-field-eq0 c = rw c.if-field-eq0.true
+returns-in-0 c = rw c.in-0.is
 
-pub returns-then-field-eq1 : goal.returns-then-field-eq1
+pub returns-in-1 : goal.returns-in-1
 unfolding present
-returns-then-field-eq1 c = rw c.if-field-eq1.true
+returns-in-1 c = rw c.in-1.is
 
-pub returns-then-field-eq2 : goal.returns-then-field-eq2
+pub returns-in-2 : goal.returns-in-2
 unfolding present
-returns-then-field-eq2 c = rw c.if-field-eq2.true
+returns-in-2 c = rw c.in-2.is
 
-pub returns-then-field-eq3 : goal.returns-then-field-eq3
+pub returns-in-3 : goal.returns-in-3
 unfolding present
-returns-then-field-eq3 c = rw c.if-field-eq3.true
+returns-in-3 c = rw c.in-3.is
 
-pub returns : goal.returns
-returns c = layer_present c.args.form c.args.field (c.args.field - 4) (omega arith)
+pub returns-in_default : goal.returns-in_default
+returns-in_default c = layer_present c.args.form c.args.field (c.args.field - 4) (omega (arith, c.in_default))

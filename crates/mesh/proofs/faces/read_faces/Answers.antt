@@ -1,109 +1,67 @@
+-- The invariant: what is left of the faces, stored after what was read, is the whole; the pending bits of the state are inverted, and
 -- the total is the histogram's sum.
 use Prim.Native.Nat.{◌*◌}
 use mathlib.Core.List.{◌∷◌, []}
-use mathlib.Core.Path.{◌∙◌, ap, refl, subst, sym}
+use mathlib.Core.Path.{◌∙◌, sym}
 use native.Mathlib.Omega.{arith}
+use mir.Syntax.{w32}
+use mir.Val.{Fits}
 use borrow.Author.Rules.{rules}
-use lib.ListN.{get_or, length, length-set}
-use Rattle.fields.proofs.Judging.{told}
-use Rattle.coder.specs.Reading.{read_given}
+use lib.ListN.{get_or}
+use Rattle.std.proofs.lemmas.Result.{err_from_is_err_and}
 use Rattle.mesh.specs.Corners.{face_words}
-use Rattle.mesh.specs.Faces.{coded_number}
-use Rattle.mesh.specs.Inside.{CornersInverted, ReadInverted}
 use Rattle.mesh.proofs.FaceRuns.{corners_failed, corners_stop, corners_told, face_turn, faces_none, faces_start, fresh_inverted, fresh_total, shading_below, shading_stops}
 use Rattle.mesh.proofs.faces.read_faces.Goals as goal
 
-pub bounds-counts-0 : goal.bounds-counts-0
-bounds-counts-0 c = omega arith
-
 pub loop-i-init : goal.loop-i-init
 loop-i-init c =
-    let a = c.args in (
-      omega arith,
-      search rules,
-      refl,
-      fresh_inverted a.input.now c.fresh-s.result c.fresh-s.ensures,
-      fresh_total c.fresh_histogram-histogram.result c.fresh_histogram-histogram.ensures,
-      faces_start a.declaration a.counts (get_or a.counts 0 0) c.fresh_histogram-histogram.result a.input.now c.fresh-s.result a.table.now c.fresh_histogram-histogram.ensures c.fresh-s.ensures,
-    )
+    let a = c.args in record {
+      inverted = fresh_inverted a.input.now c.fresh-s.result c.fresh-s.ensures;
+      total = fresh_total c.fresh_histogram-histogram.result c.fresh_histogram-histogram.ensures;
+      whole = faces_start a.declaration a.counts (get_or a.counts 0 0) c.fresh_histogram-histogram.result a.input.now c.fresh-s.result a.table.now
+          c.fresh_histogram-histogram.ensures c.fresh-s.ensures;
+    }
 
-pub take_shading-taken-requires : goal.take_shading-taken-requires
-take_shading-taken-requires c = (c.loop-i.invariant.3, c.loop-i.invariant.4)
+pub take_shading-requires : goal.take_shading-requires
+take_shading-requires c = (c.loop-i.invariant.inverted, c.loop-i.invariant.total)
 
-pub shape_of-table-in_default : goal.shape_of-table-in_default
-shape_of-table-in_default c = c.loop-i.invariant.2
-
-pub returns-in_default : goal.returns-in_default
-returns-in_default c =
+pub returns-in_err-found : goal.returns-in_err-found
+returns-in_err-found c =
     let a = c.args in
     let l = c.loop-i in
-    let e = told (λ r. coded_number (read_given r)) c.take_shading-taken.ensures.result_value c.in_default.is in
-    let q = c.refusal_number.ensures ∙ ap (λ r. (read_given r).number) c.in_default.is in
-    rw q (sym (l.invariant.5 ∙ shading_stops a.declaration a.counts (get_or a.counts 0 0) l.i (l.histogram ∷ []) a.input.now l.s l.table c.loop-i-test.true _ _ e))
+    let p = err_from_is_err_and c.from_residual.result c.from_residual.ensures.1 in
+    let e = sym c.in_err-found.ensures.result_value in
+    rw (p.1, p.2) (sym (l.invariant.whole ∙ shading_stops a.declaration a.counts (get_or a.counts 0 0) l.i (l.histogram ∷ []) a.input.now l.s l.table c.loop-i-test.true _ _ e))
 
-pub overflow_mul-i : goal.overflow_mul-i
-overflow_mul-i c = omega arith
-
-pub offset_bounds-shadings-id : goal.offset_bounds-shadings-id
-offset_bounds-shadings-id c = omega arith
-
-pub bounds-shadings-id : goal.bounds-shadings-id
-bounds-shadings-id c =
-    let e = told (λ r. coded_number (read_given r)) c.take_shading-taken.ensures.result_value c.in-Got.is in
-    omega (arith, shading_below _ _ _ _ _ e, c.requires)
-
-pub overflow_mul-i-in-loop-i : goal.overflow_mul-i-in-loop-i
-overflow_mul-i-in-loop-i c = omega arith
-
-pub overflow_add-i : goal.overflow_add-i
-overflow_add-i c = omega arith
+pub bounds-declaration-found : goal.bounds-declaration-found
+bounds-declaration-found c = omega (arith, shading_below _ _ _ _ _ (sym c.in_ok-found.ensures.result_value), c.requires)
 
 pub read_corners-requires : goal.read_corners-requires
-read_corners-requires c = (subst (ReadInverted c.args.input.now) c.in-Got.is c.take_shading-taken.ensures.read_inverted, omega (arith, c.loop-i.invariant.1, c.loop-i-test.true))
+read_corners-requires c =
+    let small : Fits w32 (get_or c.args.counts 0 0) = search rules in
+    (c.in_ok-found.ensures.read_inverted, omega arith)
 
-pub shape_of-table-in-Refused : goal.shape_of-table-in-Refused
-shape_of-table-in-Refused c =
-    let l = c.loop-i in
-    c.read_corners.auto.table ∙ (ap length c.put.ensures ∙ simp length-set l.invariant.2)
-
-pub returns-in-Refused : goal.returns-in-Refused
-returns-in-Refused c =
+pub returns-in_err-s : goal.returns-in_err-s
+returns-in_err-s c =
     let a = c.args in
     let l = c.loop-i in
-    let r = c.read_corners in
-    let e = told (λ r. coded_number (read_given r)) c.take_shading-taken.ensures.result_value c.in-Got.is in
-    let f = corners_failed r.result r.new.table _ _ _ r.ensures.table_after _ c.in-Refused.is in
-    sym (l.invariant.5 ∙ corners_stop a.declaration a.counts (get_or a.counts 0 0) l.i (l.histogram ∷ []) a.input.now l.s l.table c.loop-i-test.true _ _ e _ _ f)
-
-pub overflow_add-i-in-loop-i : goal.overflow_add-i-in-loop-i
-overflow_add-i-in-loop-i c = omega (arith, c.loop-i-test.true, c.loop-i.invariant.1)
-
-pub loop-i-smaller : goal.loop-i-smaller
-loop-i-smaller c = omega (arith, c.loop-i-test.true)
+    let p = err_from_is_err_and c.from_residual-in_err-s.result c.from_residual-in_err-s.ensures.1 in
+    let e = sym c.in_ok-found.ensures.result_value in
+    let f = corners_failed _ _ _ _ _ c.in_err-s.ensures.table_after in
+    rw (p.1, p.2) (sym (l.invariant.whole ∙ corners_stop a.declaration a.counts (get_or a.counts 0 0) l.i (l.histogram ∷ []) a.input.now l.s l.table c.loop-i-test.true _ _ e _ _ f))
 
 pub loop-i-preserved : goal.loop-i-preserved
 loop-i-preserved c =
     let a = c.args in
     let l = c.loop-i in
-    let r = c.read_corners in
-    let t = c.take_shading-taken in
-    let e = told (λ r. coded_number (read_given r)) t.ensures.result_value c.in-Got.is in
-    let f = corners_told r.result r.new.table _ _ _ r.ensures.table_after _ c.in-Read.is in
-    let g = face_turn a.declaration a.counts (get_or a.counts 0 0) l.i l.histogram a.input.now l.s l.table c.loop-i-test.true _ _ e f.0 _ f.1
-    _ _ _ c.put.ensures f.2 t.ensures.histogram_after.0 in (
-      omega (arith, c.loop-i-test.true),
-      l.invariant.1,
-      r.auto.table ∙ (ap length c.put.ensures ∙ simp length-set l.invariant.2),
-      subst (CornersInverted a.input.now) c.in-Read.is r.ensures.corners_inverted,
-      t.ensures.histogram_after.1,
-      l.invariant.5 ∙ g,
-    )
-
-pub shape_of-table : goal.shape_of-table
-shape_of-table c = c.loop-i.invariant.2
+    let t = c.in_ok-found.ensures in
+    let f = corners_told _ _ _ _ c.in_ok-s.ensures.table_after in
+    let g = face_turn a.declaration a.counts (get_or a.counts 0 0) l.i l.histogram a.input.now l.s l.table c.loop-i-test.true _ _ (sym t.result_value) f.0 _ f.1
+    _ _ _ c.put.ensures f.2 t.histogram_after.0 in
+    record { inverted = c.in_ok-s.ensures.corners_inverted; total = t.histogram_after.1; whole = l.invariant.whole ∙ g }
 
 pub returns : goal.returns
 returns c =
     let l = c.loop-i in
     let a = c.args in
-    sym (l.invariant.5 ∙ faces_none a.declaration a.counts (get_or a.counts 0 0) l.i (l.histogram ∷ []) a.input.now l.s l.table (face_words * l.i) c.loop-i-test.false)
+    sym (l.invariant.whole ∙ faces_none a.declaration a.counts (get_or a.counts 0 0) l.i (l.histogram ∷ []) a.input.now l.s l.table (face_words * l.i) (omega arith))

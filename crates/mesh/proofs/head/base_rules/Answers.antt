@@ -1,8 +1,18 @@
--- The table's rows are the rules.
+-- The rules one by one; the smaller of two numbers.
+use mathlib.Core.Path.{◌∙◌}
 use Rattle.mesh.specs.Base.{base_rules}
-use Rattle.mesh.specs.Inside.{rule_at, rules_from}
+use Rattle.mesh.proofs.Heads.{smaller_min}
 use Rattle.mesh.proofs.head.base_rules.Goals as goal
 
 pub returns : goal.returns
-unfolding base_rules rule_at rules_from
-returns c = simp c.smaller_of-positions.ensures
+unfolding base_rules
+returns c =
+    rw (
+      c.base_count.ensures,
+      c.base_count-2.ensures,
+      c.base_count-3.ensures,
+      c.base_count-4.ensures,
+      c.base_count-5.ensures,
+      c.base_count-6.ensures,
+      c.min.ensures ∙ smaller_min _ _,
+    )

@@ -6,8 +6,8 @@ use Rattle.mesh.specs.Shading.{no_shadings, shading_limit, shadings_at}
 use Rattle.mesh.proofs.shading.read_shadings.Given as goal
 
 abbrev pub invariant-loop-i : goal.invariant-loop-i
-invariant-loop-i l = (l.i ≤ l.count) × (l.count ≤ shading_limit) × (length l.shadings ≡ shading_limit)
-    × (stored_shadings no_shadings 0 (shadings_at l.count l.s l.from) ≡ stored_shadings l.shadings l.i (shadings_at (l.count - l.i) l.s l.at))
-
-abbrev pub decreases-loop-i : goal.decreases-loop-i
-decreases-loop-i l = l.count - l.i
+invariant-loop-i l = record {
+  few : l.count ≤ shading_limit;
+  room : length l.shadings ≡ shading_limit;
+  whole : stored_shadings no_shadings 0 (shadings_at l.count l.s l.from) ≡ stored_shadings l.shadings l.i (shadings_at (l.count - l.i) l.s l.at);
+}

@@ -2,4 +2,4 @@
 use Rattle.oysterfold.proofs.coder_state.put_coder.Goals as goal
 
 pub returns : goal.returns
-returns c = c.put_words.ensures
+returns c = rw (← c.from.ensures, ← c.from-2.ensures) c.put_words.ensures

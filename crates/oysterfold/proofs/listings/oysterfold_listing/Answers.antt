@@ -1,8 +1,8 @@
 -- The result's length, and then the room for the listing, decide.
+use mathlib.Core.Path.{sym}
 use Rattle.fields.specs.Limits.{largest_file}
 use Rattle.fields.specs.Judged.{buffer_after}
-use Rattle.fields.proofs.Judging.{told}
-use Rattle.listing.specs.Listing.{listing_given, listing_of, written}
+use Rattle.listing.specs.Listing.{listing_of, written}
 use Rattle.oysterfold.proofs.Results.{handed, too_short}
 use Rattle.oysterfold.proofs.listings.oysterfold_listing.Goals as goal
 
@@ -13,18 +13,10 @@ returns-then-res-lt-RESULT_WORDS c =
     let j = written words a.text.now in
     let both = too_short j j (λ k. buffer_after k words a.text.now) a.res.now c.if-res-lt-RESULT_WORDS.true in record { value = both.0; text_after = both.1.0; res_after = both.1.1 }
 
-pub returns-in-Written : goal.returns-in-Written
-returns-in-Written c =
+pub returns : goal.returns
+returns c =
     let a = c.args in
     let words = listing_of largest_file a.file.now in
     let j = written words a.text.now in
     let both = handed j j (λ k. buffer_after k words a.text.now) a.res.now c.if-res-lt-RESULT_WORDS.false _
-    (told listing_given c.list_file.ensures.result_value c.in-Written.is) c.list_file.ensures.text_after c.told.ensures.value c.told.ensures.res_after in record { value = both.0; text_after = both.1.0; res_after = both.1.1 }
-
-pub returns-in-Refused : goal.returns-in-Refused
-returns-in-Refused c =
-    let a = c.args in
-    let words = listing_of largest_file a.file.now in
-    let j = written words a.text.now in
-    let both = handed j j (λ k. buffer_after k words a.text.now) a.res.now c.if-res-lt-RESULT_WORDS.false _
-    (told listing_given c.list_file.ensures.result_value c.in-Refused.is) c.list_file.ensures.text_after c.refused.ensures.value c.refused.ensures.res_after in record { value = both.0; text_after = both.1.0; res_after = both.1.1 }
+    (sym c.list_file.ensures.result_value) c.list_file.ensures.text_after c.tell.ensures.value c.tell.ensures.res_after in record { value = both.0; text_after = both.1.0; res_after = both.1.1 }

@@ -19,4 +19,4 @@ pub returns : goal.returns
 returns c =
     let a = c.args in
     read_told (take_bytes a.bytes a.coded.now (coder_in a.state.now)) a.state.now a.res.now c.if-res-lt-RESULT_WORDS.false (le-ltb _ _ c.if-state-lt-CODER_WORDS.false)
-    (rw c.coder_in.ensures at c.read_plain-read.ensures) c.answer.ensures
+    (rw c.coder_in.ensures at c.read_plain-read.ensures) (c.answer.ensures (coder_in a.state.now))

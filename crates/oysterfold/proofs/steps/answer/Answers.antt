@@ -1,6 +1,9 @@
--- The number is the refusal's, or 0 with the counts stored.
-use Rattle.oysterfold.proofs.Stepping.{stored_counts}
+-- The number is the fault's, or 0 with the counts stored.
+use mathlib.Core.Path.{refl}
 use Rattle.oysterfold.proofs.steps.answer.Goals as goal
 
-pub returns-in-Done : goal.returns-in-Done
-returns-in-Done c = stored_counts c.args.counts.now c.in-Done.is
+pub returns-in-Err : goal.returns-in-Err
+returns-in-Err c = rw c.in-Err.is (c.from.ensures, refl)
+
+pub returns-in-Ok : goal.returns-in-Ok
+returns-in-Ok c = rw c.in-Ok.is (refl, c.put_counts.ensures)

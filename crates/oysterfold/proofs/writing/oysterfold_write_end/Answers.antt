@@ -26,4 +26,4 @@ returns c =
     let a = c.args in
     let e = end a.buffer.now (writer_in a.state.now) in
     let long = le-ltb _ _ c.if-state-lt-WRITER_WORDS.false in
-    let given = rw c.writer_in.ensures at c.finish-ended.ensures in record { buffer_after = write_told (end_write e) a.state.now a.buffer.now (result_long a.res.now c.if-res-lt-RESULT_WORDS.false long) (ap end_write given) (c.end_answer.ensures _).0; res_after = used_told e a.res.now c.if-res-lt-RESULT_WORDS.false long given (c.end_answer.ensures _).1 }
+    let given = rw c.writer_in.ensures at c.finish-ended.ensures in record { buffer_after = write_told (end_write e) a.state.now a.buffer.now (result_long a.res.now c.if-res-lt-RESULT_WORDS.false long) (ap end_write given) (c.end_answer.ensures (writer_in a.state.now) _).0; res_after = used_told e a.res.now c.if-res-lt-RESULT_WORDS.false long given (c.end_answer.ensures (writer_in a.state.now) _).1 }

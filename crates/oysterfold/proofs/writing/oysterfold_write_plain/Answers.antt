@@ -14,4 +14,4 @@ pub returns : goal.returns
 returns c =
     let a = c.args in
     write_told (write_bytes a.bytes a.buffer.now (writer_in a.state.now) a.value) a.state.now a.buffer.now (le-ltb _ _ c.if-state-lt-WRITER_WORDS.false)
-    (rw c.writer_in.ensures at c.written_plain-written.ensures) (c.answer.ensures _)
+    (rw c.writer_in.ensures at c.written_plain-written.ensures) (c.answer.ensures (writer_in a.state.now) _)

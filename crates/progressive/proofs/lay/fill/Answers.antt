@@ -1,13 +1,6 @@
--- The invariant: the first numbers are the value, and the rest of the table is as it was.
-use Rattle.std.proofs.Common.{refl, rules}
-use Rattle.progressive.proofs.Indexed.{written_done, written_more, written_none}
+-- What is filled is what stores of the value, one after the other, leave.
+use Rattle.progressive.proofs.Indexed.{filled_part}
 use Rattle.progressive.proofs.lay.fill.Goals as goal
 
-pub loop-i-init : goal.loop-i-init
-loop-i-init c = (search rules, written_none)
-
-pub loop-i-preserved : goal.loop-i-preserved
-loop-i-preserved c = (search rules, written_more c.loop-i.invariant.1 refl refl)
-
 pub returns : goal.returns
-returns c = written_done c.loop-i.invariant.1 c.loop-i.invariant.0 c.loop-i-test.false
+returns c = let a = c.args in filled_part a.table.now a.at a.value a.count c.requires (c.fill.ensures.after (λ y e. e))

@@ -1,9 +1,6 @@
-use Rattle.std.proofs.Common.{◌-◌, ◌≤◌}
-use Rattle.progressive.specs.Inside.{AtStep}
+use Rattle.progressive.specs.Marks.{AtStep}
 use Rattle.progressive.proofs.levels.walk_on.Given as goal
 
+-- the walk has come to step i
 abbrev pub invariant-loop-i : goal.invariant-loop-i
-invariant-loop-i l = (l.i ≤ l.k) × AtStep l.steps l.i l.at
-
-abbrev pub decreases-loop-i : goal.decreases-loop-i
-decreases-loop-i l = l.k - l.i
+invariant-loop-i l = AtStep l.steps l.i l.spot

@@ -19,18 +19,18 @@ module _ (t : List ℕ) (shadings : ℕ) (rs : List StepRequest) (i : ℕ) (w : 
   unfolding asks
   all_taken l small h = sym (walked_none t shadings w small) ∙ (rw (drop_all i rs l) at h)
 
-pub loop-i-preserved : goal.loop-i-preserved
-loop-i-preserved c =
+pub loop-request-preserved : goal.loop-request-preserved
+loop-request-preserved c =
     let a = c.args in
-    let at = c.loop-i in
+    let at = c.loop-request in
     let w = progress_of at.progress at.faces at.positions in
     record {
-      told = told_small a.steps.now a.shadings _ w c.take_marked-progress.ensures;
-      walked = wish_taken a.steps.now a.shadings a.requests.now at.i w _ c.loop-i-test.true c.take_marked-progress.ensures at.invariant.walked;
+      told = told_small a.steps.now a.shadings _ w c.take_judged-progress.ensures;
+      walked = wish_taken a.steps.now a.shadings a.requests.now at.request-index w _ c.loop-request-test.true c.take_judged-progress.ensures at.invariant.walked;
     }
 
 pub returns : goal.returns
 returns c =
     let a = c.args in
-    let at = c.loop-i in
-    all_taken a.steps.now a.shadings a.requests.now at.i (progress_of at.progress at.faces at.positions) c.loop-i-test.false at.invariant.told at.invariant.walked
+    let at = c.loop-request in
+    all_taken a.steps.now a.shadings a.requests.now at.request-index (progress_of at.progress at.faces at.positions) c.loop-request-test.false at.invariant.told at.invariant.walked

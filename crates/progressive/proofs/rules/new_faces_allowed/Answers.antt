@@ -1,18 +1,16 @@
--- The invariant: the new faces so far are allowed.
-use Rattle.fields.proofs.All.{all_done, all_fails, all_more}
-use Rattle.progressive.specs.Rules.{new_face_numbers}
+-- Each new face is tested, as the code has its place.
+use Rattle.std.proofs.Common.{ℕ, ◌+◌, ◌*◌, rules, tests, refl, ◌∙◌}
+use Rattle.progressive.specs.StepTable.{new_face_words}
+use Rattle.progressive.specs.Rules.{new_face_allowed, new_face_numbers}
 use Rattle.progressive.proofs.Allowing.{new_face_test}
-use Rattle.std.proofs.Common.{sym, ◌∙◌, rules}
+use Rattle.progressive.proofs.Ranges.{all_of_range, same_all}
 use Rattle.progressive.proofs.rules.new_faces_allowed.Goals as goal
 
-pub returns-then-not-new_face_allowed : goal.returns-then-not-new_face_allowed
-returns-then-not-new_face_allowed c = let a = c.args in
-    sym (all_fails (new_face_numbers a.steps.now a.step a.shadings a.r) a.count c.loop-j.j c.loop-j-test.true (sym (new_face_test a.steps.now a.step a.shadings a.r c.loop-j.j c.number.ensures.0 c.number-s.ensures.0 c.new_face_allowed.ensures) ∙ c.if-not-new_face_allowed.true))
-
-pub loop-j-preserved : goal.loop-j-preserved
-loop-j-preserved c = let a = c.args in
-    (search rules, all_more (new_face_numbers a.steps.now a.step a.shadings a.r) c.loop-j.j c.loop-j.invariant.1 (sym (new_face_test a.steps.now a.step a.shadings a.r c.loop-j.j c.number.ensures.0 c.number-s.ensures.0 c.new_face_allowed.ensures) ∙ c.if-not-new_face_allowed.false))
-
 pub returns : goal.returns
-returns c = let a = c.args in
-    sym (all_done (new_face_numbers a.steps.now a.step a.shadings a.r) a.count c.loop-j.j c.loop-j.invariant.0 c.loop-j-test.false c.loop-j.invariant.1)
+returns c =
+    let a = c.args in
+    let t = a.step.table.now in
+    let test = λ (j : ℕ). new_face_allowed t (c.new_face_at-first.result + new_face_words * j) a.shadings a.r c.split.result in
+    all_of_range test a.count _ _ _ c.all.ensures.ran refl (λ x q k. search (rules, tests)) (λ x q k. search (rules, tests))
+    ∙ same_all test (new_face_numbers t a.step.at a.shadings a.r) a.count
+    (λ j h. new_face_test t a.step.at a.shadings a.r j c.new_face_at-first.ensures c.split.ensures refl)

@@ -1,18 +1,10 @@
--- The invariant: the coordinates so far are those of the step.
-use Rattle.std.proofs.Common.{refl, rules}
-use Rattle.progressive.specs.Indexed.{from}
+use Rattle.std.proofs.Common.{◌+◌, rules, tests, refl, eqb, get_or}
 use Rattle.progressive.specs.StepTable.{coordinate}
-use Rattle.progressive.proofs.Indexed.{show_done, show_fails, show_more}
+use Rattle.progressive.proofs.Ranges.{all_of_range}
 use Rattle.progressive.proofs.show.coordinates_show.Goals as goal
 
-pub returns-then-word : goal.returns-then-word
-returns-then-word c = let a = c.args in
-    show_fails (from a.at) (coordinate a.steps.now a.step) a.positions.now c.loop-i.i refl c.word.ensures c.word-in-loop-i.ensures a.count c.loop-i-test.true c.if-word.true
-
-pub loop-i-preserved : goal.loop-i-preserved
-loop-i-preserved c = let a = c.args in
-    (search rules, show_more (from a.at) (coordinate a.steps.now a.step) a.positions.now c.loop-i.i refl c.word.ensures c.word-in-loop-i.ensures c.loop-i.invariant.1 c.if-word.false)
-
 pub returns : goal.returns
-returns c = let a = c.args in
-    show_done (from a.at) (coordinate a.steps.now a.step) a.positions.now a.count c.loop-i.i c.loop-i.invariant.0 c.loop-i-test.false c.loop-i.invariant.1
+returns c =
+    let a = c.args in
+    all_of_range (λ i. eqb (get_or a.positions.now (a.at + i) 0) (coordinate a.step.table.now a.step.at i)) a.count _ _ _ c.all.ensures.ran refl
+    (λ x q k. search (rules, tests)) (λ x q k. search (rules, tests))

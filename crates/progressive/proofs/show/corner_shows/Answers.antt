@@ -1,13 +1,10 @@
 -- The position refutes, or the absent fields decide.
 use Rattle.std.proofs.Common.{sym, ◌∙◌}
-use Rattle.progressive.proofs.Indexed.{first_differs, first-same}
+use Rattle.progressive.proofs.Indexed.{first-same}
 use Rattle.progressive.proofs.Laying.{corner_parts}
 use Rattle.progressive.proofs.show.corner_shows.Goals as goal
 
 pub returns-then-faces-at : goal.returns-then-faces-at
-returns-then-faces-at c = let a = c.args in
-    first_differs _ c.if-faces-at.true ∙ sym (corner_parts a.faces.now a.at a.position)
-
-pub returns : goal.returns
-returns c = let a = c.args in
-    first-same c.if-faces-at.false c.filled.ensures ∙ sym (corner_parts a.faces.now a.at a.position)
+returns-then-faces-at c =
+    let a = c.args in
+    first-same c.if-faces-at.true c.filled.ensures ∙ sym (corner_parts a.faces.now a.at a.position)

@@ -1,16 +1,13 @@
--- `digits::decimal_width` meets its contract. The invariant: so many digits are counted, with one of the rest. Assumes nothing.
+-- `digits::decimal_width` meets its contract. Assumes nothing.
 use native.Mathlib.Omega.{arith}
-use Rattle.text.proofs.Turns.{counted_none, counted_more, counted_all}
+use mathlib.Core.Path.{sym}
+use Rattle.text.proofs.Widths.{width_of, width_one}
 use Rattle.text.proofs.digits.decimal_width.Goals as goal
 
-pub loop-rest-init : goal.loop-rest-init
-loop-rest-init c = counted_none c.args.value (omega arith)
+pub returns-in-None : goal.returns-in-None
+returns-in-None c = sym (width_one 19 c.args.value (omega (arith, c.in-None.ensures.none)))
 
-pub overflow_add-width : goal.overflow_add-width
-overflow_add-width c = omega (arith, c.loop-rest.invariant.most)
-
-pub loop-rest-preserved : goal.loop-rest-preserved
-loop-rest-preserved c = counted_more c.loop-rest.invariant c.loop-rest-test.true
-
-pub returns : goal.returns
-returns c = counted_all c.loop-rest.invariant (omega arith)
+pub returns-in-Some : goal.returns-in-Some
+returns-in-Some c =
+    let e = c.in-Some.ensures in
+    sym (width_of 19 c.in-Some.power c.args.value (omega (arith, e.bound)) e.power_le e.next_power_gt)

@@ -1,6 +1,6 @@
 -- `digits::put_digits` meets its contract. The invariant: what is to be stored onto the text at the start is what is still to be stored onto
 -- the present text. Assumes nothing.
-use mathlib.Core.Path.{refl, sym, ◌∙◌}
+use mathlib.Core.Path.{sym, ◌∙◌}
 use native.Mathlib.Nat.{mod-lt}
 use native.Mathlib.Omega.{arith}
 use Rattle.text.specs.Digits.{digits_of}
@@ -8,19 +8,16 @@ use Rattle.text.proofs.Stores.{stored_length}
 use Rattle.text.proofs.Turns.{digits_more, digits_none}
 use Rattle.text.proofs.digits.put_digits.Goals as goal
 
-pub loop-left-init : goal.loop-left-init
-loop-left-init c = refl
-
 pub digit-requires : goal.digit-requires
-digit-requires c = omega (arith, mod-lt c.loop-left.rest c.requires.0)
+digit-requires c = omega (arith, mod-lt c.loop-i.rest c.requires.0)
 
-pub loop-left-preserved : goal.loop-left-preserved
-loop-left-preserved c =
-    let l = c.loop-left in
-    l.invariant ∙ digits_more l.text _ _ l.left l.rest c.loop-left-test.true ∙ rw (c.put.ensures, c.digit.ensures)
+pub loop-i-preserved : goal.loop-i-preserved
+loop-i-preserved c =
+    let l = c.loop-i in
+    l.invariant ∙ digits_more l.text _ _ l.i l.rest c.loop-i-test.true ∙ rw (c.put.ensures, c.digit.ensures)
 
 pub returns : goal.returns
-returns c = sym (c.loop-left.invariant ∙ digits_none _ _ _ _ _ (omega arith))
+returns c = sym (c.loop-i.invariant ∙ digits_none _ _ _ _ _ (omega arith))
 
 pub shape_of-text : goal.shape_of-text
 shape_of-text c =

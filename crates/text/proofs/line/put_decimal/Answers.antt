@@ -1,4 +1,4 @@
--- `fields::put_decimal` meets its contract: the digits, and then the byte that ends them. Assumes nothing.
+-- `line::put_decimal` meets its contract: the digits, and then the byte that ends them. Assumes nothing.
 use mathlib.Core.Path.{◌∙◌}
 use native.Mathlib.Omega.{arith}
 use Rattle.text.specs.Digits.{decimal_field}

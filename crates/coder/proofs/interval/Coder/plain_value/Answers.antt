@@ -78,7 +78,7 @@ pub loop-left-init : goal.loop-left-init
 loop-left-init c =
     let a = c.args in
     let p = c.requires in
-    left_first (bit_at a.bytes.now) a.count a.self a.first p.reading.0 p.reading.1 p.pending_bound.1 p.pending_bound.2 p.pending_bound.0
+    left_first (bit_at a.bytes.now) a.count a.self a.first p.pointed.reading p.pointed.same p.pending_bound.1 p.pending_bound.2 p.pending_bound.0
 
 pub target-symbol-requires : goal.target-symbol-requires
 target-symbol-requires c =
@@ -91,14 +91,11 @@ slice_bounds-reversed-end c = sym (ap (λ (l : List ℕ). length l) c.reversed_b
 pub reversed-requires : goal.reversed-requires
 reversed-requires c = (c.reversed_bytes-table.ensures, byte_below c.loop-left.invariant c.target-symbol.result (byte_of (goal.at.reversed-requires c).After-target-symbol))
 
-pub overflow_cast-value : goal.overflow_cast-value
-overflow_cast-value c = omega (arith, c.reversed.ensures.upper_bound)
-
 pub overflow_mul-value : goal.overflow_mul-value
-overflow_mul-value c = omega (arith, turn-of c)
+overflow_mul-value c = rw c.from.ensures (omega (arith, turn-of (goal.at.overflow_mul-value c).After-reversed))
 
 pub overflow_add-value : goal.overflow_add-value
-overflow_add-value c = omega (arith, turn-of c)
+overflow_add-value c = rw c.from.ensures (omega (arith, turn-of (goal.at.overflow_add-value c).After-reversed))
 
 pub after-s-requires : goal.after-s-requires
 after-s-requires c =
@@ -110,7 +107,7 @@ pub overflow_sub-left : goal.overflow_sub-left
 overflow_sub-left c = c.loop-left.invariant.some
 
 pub overflow_cast-result : goal.overflow_cast-result
-overflow_cast-result c = omega (arith, turn-of (goal.at.overflow_cast-result c).After-reversed)
+overflow_cast-result c = rw c.from.ensures (omega (arith, turn-of (goal.at.overflow_cast-result c).After-reversed))
 
 pub returns-then-left-eq0 : goal.returns-then-left-eq0
 returns-then-left-eq0 c =
@@ -118,7 +115,7 @@ returns-then-left-eq0 c =
     let x = bit_at c.args.bytes.now in
     let byte = byte_of (goal.at.returns-then-left-eq0 c).After-target-symbol in
     let last = whole_last x l.s l.left l.value l.place _ _ l.invariant.some byte (next_of (goal.at.returns-then-left-eq0 c).After-after-s) c.if-left-eq0.true in
-    rw c.reversed.ensures.value last ∙ l.invariant.same
+    rw (c.from.ensures, c.reversed.ensures.value) last ∙ l.invariant.same
 
 pub overflow_mul-place : goal.overflow_mul-place
 overflow_mul-place c = omega (arith, turn-of (goal.at.overflow_mul-place c).After-reversed)
@@ -135,5 +132,6 @@ pub loop-left-preserved : goal.loop-left-preserved
 loop-left-preserved c =
     let r = c.reversed in
     let two = bit_binary c.args.bytes.now in
-    left_less c.loop-left.invariant two _ r.result _ _ (byte_of (goal.at.loop-left-preserved c).After-target-symbol)
-    r.ensures.value r.ensures.upper_bound (next_of (goal.at.loop-left-preserved c).After-after-s) c.code-number.ensures c.if-left-eq0.false
+    rw c.from.ensures
+    (left_less c.loop-left.invariant two _ r.result _ _ (byte_of (goal.at.loop-left-preserved c).After-target-symbol)
+    r.ensures.value r.ensures.upper_bound (next_of (goal.at.loop-left-preserved c).After-after-s) c.code-number.ensures c.if-left-eq0.false)

@@ -11,5 +11,5 @@ pub returns : goal.returns
 returns c =
     let a = c.args in
     let mirror : c.reversed_word.result / 2 ≡ reversed 15 a.self.low = rw c.reversed_word.ensures.value (mirror_of a.self.low) in
-    c.put_up.ensures ∙ rw (c.put_run.ensures, c.put_part.ensures)
+    c.put_up.ensures ∙ rw (c.put_run.ensures, c.put_part.ensures, c.from.ensures)
     (lead_put a.n a.self a.buf.now _ (search rules) (search rules) (search rules) mirror)

@@ -18,23 +18,22 @@ state-near c =
 
 pub span_at-requires : goal.span_at-requires
 span_at-requires c =
-    let h = c.requires.well_formed_histogram in
     let k = c.next_symbol-symbol.ensures in
-    record { h_len = (h.1, omega (arith, k.inside, h.1), h.2); well_formed_histogram = (h.0, k.before_it) }
+    (omega (arith, k.inside), k.before_it)
 
 pub after-state-requires : goal.after-state-requires
 after-state-requires c =
     let p = c.requires in
-    record { well_formed = p.reading.0.limits; room = record { room = omega (arith, p.pending_bound.0) }; codable = rw c.span_at.ensures c.next_symbol-symbol.ensures.codable }
+    record { well_formed = p.pointed.reading.limits; room = record { room = omega (arith, p.pending_bound.0) }; codable = rw c.span_at.ensures c.next_symbol-symbol.ensures.codable }
 
 pub overflow_cast-index : goal.overflow_cast-index
-overflow_cast-index c = omega (arith, c.next_symbol-symbol.ensures.inside, c.requires.well_formed_histogram.1)
+overflow_cast-index c = omega (arith, c.next_symbol-symbol.ensures.inside)
 
 pub counted-requires : goal.counted-requires
 counted-requires c =
     let p = c.requires.pending_bound in
     let inside = c.next_symbol-symbol.ensures.inside in
-    record { len_le_largest_file = (p.1, omega (arith, inside, c.requires.well_formed_histogram.1)); well_formed_histogram = c.requires.well_formed_histogram }
+    record { len_le_largest_file = (p.1, omega (arith, inside)); totalled = c.requires.totalled }
 
 pub returns-then-index-ne0 : goal.returns-then-index-ne0
 returns-then-index-ne0 c =
@@ -43,7 +42,7 @@ returns-then-index-ne0 c =
     let found = found_as (k.result.index - 1) c.after-state.result in
     let e : found ≡ read_dynamic a.frequencies.now (bit_at a.bytes.now) a.self =
     rw (c.after-state.ensures, c.span_at.ensures)
-    (read_value a.frequencies.now (bit_at a.bytes.now) a.self k.result.index k.ensures.same c.if-index-ne0.true) in record { result_value = dynamic_answer a.frequencies.now a.bytes.now a.self k.result.index found k.ensures.same e _ c.counted.ensures.result_value; frequencies_after = dynamic_kept a.frequencies.now a.bytes.now a.self k.result.index found k.ensures.same e _ c.counted.ensures.frequencies_after }
+    (read_value a.frequencies.now (bit_at a.bytes.now) a.self k.result.index k.ensures.same c.if-index-ne0.true) in record { result_value = dynamic_answer a.frequencies.now a.bytes.now a.self k.result.index found k.ensures.same e _ (c.counted.ensures.result_value a.self); frequencies_after = dynamic_kept a.frequencies.now a.bytes.now a.self k.result.index found k.ensures.same e _ c.counted.ensures.frequencies_after }
 
 pub code-requires : goal.code-requires
 code-requires c = omega (arith, state-near (goal.at.code-requires c).After-after-state)
@@ -53,13 +52,13 @@ plain_value-found-requires c =
     let x = bit_at c.args.bytes.now in
     let reading : Reading c.after-state.result x =
     rw (c.after-state.ensures, c.span_at.ensures) c.next_symbol-symbol.ensures.reading in
-    record { reading = (reading, c.code.ensures); pending_bound = (state-near (goal.at.plain_value-found-requires c).After-after-state, omega arith, omega arith) }
+    record { pointed = record { reading = reading; same = c.code.ensures }; pending_bound = (state-near (goal.at.plain_value-found-requires c).After-after-state, omega arith, omega arith) }
 
 pub counted-requires-2 : goal.counted-requires-2
 counted-requires-2 c =
     let p = c.requires.pending_bound in
     let inside = c.next_symbol-symbol.ensures.inside in
-    record { len_le_largest_file = (p.1, omega (arith, inside, c.requires.well_formed_histogram.1)); well_formed_histogram = c.requires.well_formed_histogram }
+    record { len_le_largest_file = (p.1, omega (arith, inside)); totalled = c.requires.totalled }
 
 pub returns : goal.returns
 returns c =
@@ -72,4 +71,4 @@ returns c =
     let escaped : found ≡ read_plain 4 (bit_at a.bytes.now) (after_symbol a.self (span_of a.frequencies.now k.result.index)) =
     rw (← span, ← state) c.plain_value-found.ensures in
     let e : found ≡ read_dynamic a.frequencies.now (bit_at a.bytes.now) a.self =
-    read_escaped a.frequencies.now (bit_at a.bytes.now) a.self k.result.index found k.ensures.same escape escaped in record { result_value = dynamic_answer a.frequencies.now a.bytes.now a.self k.result.index found k.ensures.same e _ c.counted-2.ensures.result_value; frequencies_after = dynamic_kept a.frequencies.now a.bytes.now a.self k.result.index found k.ensures.same e _ c.counted-2.ensures.frequencies_after }
+    read_escaped a.frequencies.now (bit_at a.bytes.now) a.self k.result.index found k.ensures.same escape escaped in record { result_value = dynamic_answer a.frequencies.now a.bytes.now a.self k.result.index found k.ensures.same e _ (c.counted-2.ensures.result_value a.self); frequencies_after = dynamic_kept a.frequencies.now a.bytes.now a.self k.result.index found k.ensures.same e _ c.counted-2.ensures.frequencies_after }

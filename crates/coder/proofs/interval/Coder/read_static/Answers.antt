@@ -1,43 +1,32 @@
 -- Faults first, then the pending bits and the range, then the value that is found.
-use Rattle.std.proofs.Common.{◌≡◌, true, false, ltb, length, sym, refl, ◌∙◌, arith, rules, le-ltb, lt-ltb}
+use Rattle.std.proofs.Common.{◌≡◌, true, false, sym, refl, ◌∙◌, arith, rules, le-ltb, lt-ltb}
+use Rattle.std.proofs.lemmas.Result.{err_from_is_err_and}
 use Rattle.coder.proofs.Judgements.{Readable, readable}
-use Rattle.coder.proofs.Starting.{fault_first, fault_looked, fault_none, read_fault_lem, read_range, taken_got, taken_judged, taken_refused}
-use Rattle.coder.specs.Bytes.{bit_at}
-use Rattle.coder.specs.Inside.{value_number}
-use Rattle.coder.specs.Reading.{Taken, read_fault, taken, take_static}
-use Rattle.coder.specs.Values.{Found, read_static}
+use Rattle.coder.proofs.Starting.{fault_first, fault_looked, fault_none, read_fault_lem, read_range, taken_judged, taken_refused}
+use Rattle.coder.proofs.Tests.{fault_some}
+use Rattle.coder.specs.Reading.{read_fault, take_static}
 use Rattle.coder.proofs.interval.Coder.read_static.Goals as goal
-use Rattle.coder.proofs.interval.Coder.read_static.Goals.{Else-not-pending_inverted, Else-range-eq0, Else-start-ne0}
+use Rattle.coder.proofs.interval.Coder.read_static.Goals.{Else-not-pending_inverted, In_ok-number}
 
 -- no fault tells that the data can be read
-readable_of : (c : Else-start-ne0) → Readable false c.args.bytes.now c.args.self
+readable_of : (c : In_ok-number) → Readable false c.args.bytes.now c.args.self
 readable_of c =
     let a = c.args in
-    readable false a.bytes.now a.self (sym c.start-start.ensures.fault_value ∙ c.if-start-ne0.false)
+    readable false a.bytes.now a.self (sym c.in_ok-number.ensures.0)
 
 -- the pending bits are inverted, so nothing is wrong with the state
 none_of : (c : Else-not-pending_inverted) → (let a = c.args in 0 ≡ read_fault true a.bytes.now a.self)
 none_of c =
     let seen = sym c.pending_inverted.ensures ∙ c.if-not-pending_inverted.false in
-    fault_none true _ _ _ c.start-start.ensures.fault_value c.if-start-ne0.false seen
+    fault_none true _ _ _ c.in_ok-number.ensures.0 refl seen
 
--- what is found is judged as every value in a static range
-judge-of : (c : Else-range-eq0) (found : Found) (r : Taken) → (let a = c.args in
-    found ≡ read_static a.range (bit_at a.bytes.now) a.self
-    → r ≡ taken (value_number (length a.bytes.now) found (ltb found.value a.range)) found a.self
-    → r ≡ take_static true a.range a.bytes.now a.self)
+pub returns-in_err-number : goal.returns-in_err-number
 unfolding take_static
-judge-of c found r e took =
-    let some = lt-ltb 0 c.args.range (search rules) in
-    let seen = sym c.pending_inverted.ensures ∙ c.if-not-pending_inverted.false in
-    let none = fault_none true _ _ _ c.start-start.ensures.fault_value c.if-start-ne0.false seen in
-    rw (← e) (taken_judged _ _ _ true _ _ found _ r none refl refl some took)
-
-pub returns-then-start-ne0 : goal.returns-then-start-ne0
-unfolding take_static
-returns-then-start-ne0 c =
-    let bad = fault_first true _ _ _ c.start-start.ensures.fault_value c.if-start-ne0.true in
-    taken_refused _ c.if-start-ne0.true (read_fault_lem _ _ _ _ _ _ _ _ bad c.if-start-ne0.true)
+returns-in_err-number c =
+    let p = err_from_is_err_and c.from_residual.result c.from_residual.ensures.1 in
+    let some = fault_some c.in_err-number.field-0.0 in
+    let bad = fault_first true _ _ _ c.in_err-number.ensures some in
+    rw (p.1, p.2) (taken_refused _ some (read_fault_lem _ _ _ _ _ _ _ _ bad some))
 
 pub pending_inverted-requires : goal.pending_inverted-requires
 pending_inverted-requires c = let k = readable_of c in (k.settled_small, k.pending_small, k.small)
@@ -46,7 +35,7 @@ pub returns-then-not-pending_inverted : goal.returns-then-not-pending_inverted
 unfolding take_static
 returns-then-not-pending_inverted c =
     let seen = sym c.pending_inverted.ensures ∙ c.if-not-pending_inverted.true in
-    let bad = fault_looked true _ _ _ c.start-start.ensures.fault_value c.if-start-ne0.false seen in
+    let bad = fault_looked true _ _ _ c.in_ok-number.ensures.0 refl seen in
     taken_refused _ (λ e. omega arith) (read_fault_lem _ _ _ _ _ _ _ _ bad (λ e. omega arith))
 
 pub returns-then-range-eq0 : goal.returns-then-range-eq0
@@ -57,19 +46,15 @@ returns-then-range-eq0 c =
 
 pub static_value-found-requires : goal.static_value-found-requires
 static_value-found-requires c =
-    let k = readable_of (goal.at.static_value-found-requires c).Else-start-ne0 in
-    record { reading = (k.reading, c.start-start.ensures.number_value c.if-start-ne0.false); pending_bound = (omega arith, search rules) }
+    let k = readable_of (goal.at.static_value-found-requires c).In_ok-number in
+    record { pointed = record { reading = k.reading; same = c.in_ok-number.ensures.1 }; pending_bound = (omega arith, search rules) }
 
-pub value_fault-fault-requires : goal.value_fault-fault-requires
-value_fault-fault-requires c = (readable_of (goal.at.value_fault-fault-requires c).Else-start-ne0).small
-
-pub returns-then-fault-ne0 : goal.returns-then-fault-ne0
-returns-then-fault-ne0 c =
-    let bad = taken_refused _ c.if-fault-ne0.true c.value_fault-fault.ensures in
-    judge-of (goal.at.returns-then-fault-ne0 c).Else-range-eq0 _ _ c.static_value-found.ensures bad
+pub accepted-requires : goal.accepted-requires
+accepted-requires c = (readable_of (goal.at.accepted-requires c).In_ok-number).small
 
 pub returns : goal.returns
+unfolding take_static
 returns c =
-    let found = c.static_value-found in
-    let got = taken_got _ found.result c.if-fault-ne0.false c.value_fault-fault.ensures in
-    judge-of (goal.at.returns c).Else-range-eq0 _ _ found.ensures got
+    let some = lt-ltb 0 c.args.range (search rules) in
+    let none = none_of (goal.at.returns c).Else-not-pending_inverted in
+    rw (← c.static_value-found.ensures) (taken_judged _ _ _ true _ _ c.static_value-found.result _ _ none refl refl some (c.accepted.ensures c.args.self))

@@ -19,4 +19,4 @@ overflow_add-result c =
 pub returns : goal.returns
 returns c =
     let a = c.args in
-    settled_at a.n a.self (search rules) (search rules) (search rules) (search rules)
+    rw c.from.ensures (settled_at a.n a.self (search rules) (search rules) (search rules) (search rules))

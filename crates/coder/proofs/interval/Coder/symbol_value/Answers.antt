@@ -9,15 +9,15 @@ use Rattle.coder.proofs.Streams.{bit_binary}
 use Rattle.coder.proofs.interval.Coder.symbol_value.Goals as goal
 
 pub target-value-requires : goal.target-value-requires
-target-value-requires c = let r = c.requires.reading.0 in let e = c.requires.reading.1 in record { well_formed = (r.limits, rw e r.from_low, rw e r.to_high); le_total = (search rules, search rules) }
+target-value-requires c = let r = c.requires.pointed.reading in let e = c.requires.pointed.same in record { well_formed = (r.limits, rw e r.from_low, rw e r.to_high); le_total = (search rules, search rules) }
 
 pub after-requires : goal.after-requires
 unfolding target
-after-requires c = let r = c.requires.reading.0 in record { well_formed = r.limits; room = search rules; codable = rw (c.static_span.ensures, c.target-value.ensures, c.requires.reading.1) (static_codable c.args.self c.args.range (bit_at c.args.bytes.now) r (search rules) (search rules)) }
+after-requires c = let r = c.requires.pointed.reading in record { well_formed = r.limits; room = search rules; codable = rw (c.static_span.ensures, c.target-value.ensures, c.requires.pointed.same) (static_codable c.args.self c.args.range (bit_at c.args.bytes.now) r (search rules) (search rules)) }
 
 pub returns : goal.returns
 unfolding target
 returns c = let x = bit_at c.args.bytes.now in
     let e : ◌≡◌ {A = Found} (record { value = c.target-value.result; state = c.after.result }) (symbol_value c.args.range x c.args.self) =
-    rw (c.after.ensures, c.static_span.ensures, c.target-value.ensures, c.requires.reading.1) in
-    record { value = e; stepped = rw e (symbol_stepped c.args.range x c.args.self (bit_binary c.args.bytes.now) c.requires.reading.0 (search rules) (search rules)) }
+    rw (c.after.ensures, c.static_span.ensures, c.target-value.ensures, c.requires.pointed.same) in
+    record { value = e; stepped = rw e (symbol_stepped c.args.range x c.args.self (bit_binary c.args.bytes.now) c.requires.pointed.reading (search rules) (search rules)) }

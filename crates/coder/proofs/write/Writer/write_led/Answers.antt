@@ -18,8 +18,14 @@ put_led-next-requires c =
     let h : Holds a.buf.now t = holds t a.buf.now (search rules) (sym c.has_room_led.ensures ∙ c.if-not-has_room_led.false) in
     record { well_formed = (search rules, search rules, search rules); holds = omega (arith, h, c.pad.auto) }
 
-pub returns : goal.returns
-returns c =
+pub returns-then-self : goal.returns-then-self
+returns-then-self c =
     let a = c.args in
     led_done a.self a.buf.now a.compresses _ _ _ _ _ (sym c.has_room_led.ensures ∙ c.if-not-has_room_led.false)
-    c.pad.ensures c.put_led-next.ensures.value c.put_led-next.ensures.buf_after c.either.ensures
+    c.pad.ensures c.put_led-next.ensures.value c.put_led-next.ensures.buf_after (rw c.if-self.true)
+
+pub returns-else-self : goal.returns-else-self
+returns-else-self c =
+    let a = c.args in
+    led_done a.self a.buf.now a.compresses _ _ _ _ _ (sym c.has_room_led.ensures ∙ c.if-not-has_room_led.false)
+    c.pad.ensures c.put_led-next.ensures.value c.put_led-next.ensures.buf_after (rw c.if-self.false)

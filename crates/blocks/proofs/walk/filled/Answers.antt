@@ -1,9 +1,0 @@
--- The test decides.
-use borrow.Author.Tests.{eq-eqb, ne_eqb}
-use Rattle.blocks.proofs.walk.filled.Goals as goal
-
-pub returns-then-at-len : goal.returns-then-at-len
-returns-then-at-len c = simp (eq-eqb _ _ c.if-at-len.true)
-
-pub returns-else-at-len : goal.returns-else-at-len
-returns-else-at-len c = simp (ne_eqb _ _ c.if-at-len.false)

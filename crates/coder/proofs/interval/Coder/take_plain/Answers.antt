@@ -1,5 +1,0 @@
--- Without the pending bits.
-use Rattle.coder.proofs.interval.Coder.take_plain.Goals as goal
-
-pub returns : goal.returns
-returns c = c.judged_plain.ensures

@@ -1,9 +1,0 @@
--- The measure is how many records are left.
-use Rattle.std.proofs.Common.{◌-◌, ◌≤◌}
-use Rattle.coder_runs.proofs.run_script.Given as goal
-
-abbrev pub invariant-loop-i : goal.invariant-loop-i
-invariant-loop-i g l = l.i ≤ l.count
-
-abbrev pub decreases-loop-i : goal.decreases-loop-i
-decreases-loop-i g l = l.count - l.i

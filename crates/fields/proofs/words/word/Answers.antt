@@ -1,7 +1,0 @@
--- Past the end the list gives its default.
-use mathlib.Core.Path.{sym}
-use lib.ListN.{get_or-eq_default}
-use Rattle.fields.proofs.words.word.Goals as goal
-
-pub returns-else-i-table : goal.returns-else-i-table
-returns-else-i-table c = sym (get_or-eq_default c.args.table.now 0 c.if-i-table.false)

@@ -1,9 +1,0 @@
--- By the test.
-use borrow.Author.Tests.{le-ltb, lt-ltb}
-use Rattle.mesh.proofs.head.smaller_of.Goals as goal
-
-pub returns-then-a-b : goal.returns-then-a-b
-returns-then-a-b c = simp (lt-ltb _ _ c.if-a-b.true)
-
-pub returns-else-a-b : goal.returns-else-a-b
-returns-else-a-b c = simp (le-ltb _ _ c.if-a-b.false)

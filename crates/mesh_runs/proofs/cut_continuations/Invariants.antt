@@ -1,6 +1,0 @@
--- The measure is how much of the part is left.
-use Rattle.std.proofs.Common.{length, ◌-◌}
-use Rattle.mesh_runs.proofs.cut_continuations.Given as goal
-
-abbrev pub decreases-loop-size : goal.decreases-loop-size
-decreases-loop-size g l = length l.continuation - l.size

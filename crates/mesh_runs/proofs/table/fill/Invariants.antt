@@ -1,9 +1,0 @@
--- The table keeps its length. The measure is how many words are left.
-use Rattle.std.proofs.Common.{length, ◌-◌, ◌≡◌}
-use Rattle.mesh_runs.proofs.table.fill.Given as goal
-
-abbrev pub invariant-loop-i : goal.invariant-loop-i
-invariant-loop-i l = length l.table ≡ length l.initial.table
-
-abbrev pub decreases-loop-i : goal.decreases-loop-i
-decreases-loop-i l = length l.table - l.i
