@@ -170,23 +170,33 @@ impl Coder {
         }
     }
 
-    // The answer where a value was found in data of len bytes, and this is the state after it: refused where its settled bits pass the
-    // end, or the value is not good. Value and state come apart, since a struct of both would be copied once more at every number.
-    #[tactic(auto, unfolding(crate::specs::Reading::taken))]
-    pub(crate) fn accepted(self, len: usize, value: u32, good: bool) -> Result<Found, Fault>
+    // Refused where the settled bits of this state pass the end of data of len bytes, or the value before it is not good.
+    #[tactic(auto, unfolding(crate::specs::Inside::value_number))]
+    fn value_fault(self, len: usize, good: bool) -> Result<(), Fault>
         requires { len ≤ largest_file }
-        ensures { (s : Interval) → read_given s result ≡ taken (value_number len (found_as value self) good) (found_as value self) s }
+        ensures { fault_given result ≡ value_number len (found_as 0 self) good }
     {
         if self.settled > 8 * len as u64 {
             Err(Fault::Truncated)
         } else if good {
-            Ok(Found { value, state: self })
+            Ok(())
         } else {
             Err(Fault::OutOfRange)
         }
     }
 
-    // A value in a static range: one symbol, or a plain U32 where the range is too large.
+    // The answer where a value was found in data of len bytes, and this is the state after it. Value and state come apart, since a struct
+    // of both would be copied once more at every number.
+    pub(crate) fn accepted(self, len: usize, value: u32, good: bool) -> Result<Found, Fault>
+        requires { len ≤ largest_file }
+        ensures { (s : Interval) → read_given s result ≡ taken (value_number len (found_as value self) good) (found_as value self) s }
+    {
+        self.value_fault(len, good)?;
+        Ok(Found { value, state: self })
+    }
+
+    // A value in a static range: one symbol, or a plain U32 where the range is too large. What the call left in memory is taken field by
+    // field, so that a symbol's value and state need not go through memory.
     #[tactic(auto, unfolding(crate::specs::Values::read_static))]
     fn static_value(self, bytes: &[u8], number: u32, range: u32) -> Found
         requires pointed { Pointed self (bit_at bytes.now) number }
@@ -196,7 +206,11 @@ impl Coder {
         if range <= Coder::LARGEST_RANGE {
             self.symbol_value(bytes, number, range)
         } else {
-            self.plain_value(bytes, number, U32_BYTES)
+            let found = self.plain_value(bytes, number, U32_BYTES);
+            Found {
+                value: found.value,
+                state: found.state.copied(),
+            }
         }
     }
 

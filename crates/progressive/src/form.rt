@@ -1,8 +1,8 @@
 // The form of a step table. The marks of its steps are noted on the way.
-ghost use Rattle.std.specs.Prelude.{◌≡◌, ◌<◌, ◌≤◌, true, ◌&&◌, length, ◌==◌};
+ghost use Rattle.std.specs.Prelude.{◌≡◌, ◌+◌, ◌*◌, ◌<◌, ◌≤◌, true, ◌&&◌, length, ◌==◌};
 ghost use Rattle.fields.specs.All.{all};
 ghost use Rattle.fields.specs.Limits.{largest_count, most_moves, most_steps};
-ghost use Rattle.progressive.specs.StepTable.{base_faces, corner_formed, head_words, step_count, step_formed, step_formed_at, step_offset, well_formed};
+ghost use Rattle.progressive.specs.StepTable.{base_faces, corner_formed, head_words, move_words, step_count, step_formed, step_formed_at, step_offset, step_words, well_formed};
 ghost use Rattle.progressive.specs.Marks.{Noted, with_mark};
 
 use crate::step::{MOVE_WORDS, NEW_FACE_WORDS, STEP_WORDS, Step};
@@ -33,13 +33,13 @@ pub struct StepSpot {
 
 // Every move names one of three corners.
 fn corners_formed(step: Step, count: usize) -> bool
-    requires { count ≤ most_moves }
+    requires { step.at + step_words + move_words * count ≤ length step.table.now }
     ensures { result ≡ all (corner_formed step.entry.table.now step.entry.at) count }
 {
     (0..count).all(
         |i|
-            requires { i ≤ most_moves }
-        { step.move_corner(i) <= 2 },
+            requires { step.at + step_words + move_words * (i + 1) ≤ length step.table.now }
+        { step.table[step.at + STEP_WORDS + 1 + MOVE_WORDS * i] <= 2 },
     )
 }
 

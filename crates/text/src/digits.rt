@@ -3,14 +3,12 @@ ghost use Rattle.std.specs.Prelude.{◌≡◌, ◌+◌, ◌≤◌, ◌<◌, set}
 ghost use Rattle.std.proofs.lemmas.List.Edits.{sets};
 ghost use Rattle.text.specs.Digits.{digit_of, digits_of, decimal_width};
 
-use fields::words;
-
 // Stores a byte `i` places after `at`, where there is room for it.
 pub(crate) fn put(text: &mut [u8], at: usize, i: usize, byte: u8)
     ensures { text.new ≡ set text.old (at + i) byte }
 {
-    if let Some(place) = at.checked_add(i) {
-        words::put(text, place, byte);
+    if at < text.len() && i < text.len() - at {
+        text[at + i] = byte;
     }
 }
 
