@@ -7,6 +7,7 @@ ghost use Rattle.climb.specs.Inside.{FieldsRead, RowWithin, Within, form_of, num
 
 use crate::bytes::find;
 use crate::digits::{decimal, pattern};
+use fields::name::is_same;
 use fields::refusal::{Fault, Refusal};
 use fields::words::put;
 
@@ -88,7 +89,7 @@ pub(crate) fn starts_with(text: &[u8], at: usize, word: &[u8]) -> bool
     let end = find(text, at, LINE_FEED).unwrap_or(text.len());
     let line = &text[at..end];
     let stop = find(line, 0, TAB).unwrap_or(line.len());
-    &line[..stop] == word
+    is_same(&line[..stop], word)
 }
 
 // Reads the line of that form into `table`, as far as there is room.

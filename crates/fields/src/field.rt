@@ -97,7 +97,10 @@ pub fn field_at<T: Unsigned>(s: &[u8], at: usize) -> Option<T>
 pub fn read_at<T: Unsigned>(s: &[u8], at: usize) -> Result<T, Refusal>
     ensures { number_given T.value result ≡ field_at T.WIDTH s.now at }
 {
-    field_at(s, at).ok_or(Fault::Truncated.at(at))
+    let Some(number) = field_at(s, at) else {
+        return Err(Fault::Truncated.at(at));
+    };
+    Ok(number)
 }
 
 // The `size` bytes from `at` on, as a part of `s`; the empty part where they pass its end.

@@ -8,6 +8,7 @@ use crate::declaration::{Declaration, mesh_name};
 use crate::run::{Ended, Rule, UNJUDGED, name_end, read_run};
 use crate::tables::TABLES;
 use fields::limits::LARGEST_COUNT;
+use fields::name::is_same;
 use fields::refusal::{Fault, Refusal};
 
 // The rule of a base count.
@@ -52,7 +53,7 @@ pub(crate) fn read_head(
     ensures { given result ≡ head_of s.now name.now declaration }
 {
     let end = name_end(s)?;
-    if mesh_name(s) != name {
+    if !is_same(mesh_name(s), name) {
         return Err(Fault::BadName.at(0));
     }
     let mut fields = [0u32; 7];

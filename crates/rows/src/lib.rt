@@ -9,7 +9,7 @@ use blocks::parts::{data_bounds, data_part};
 use blocks::tell::ROW_WIDTH;
 use fields::field::bytes_at;
 use fields::limits::LARGEST_FILE;
-use fields::name::name_size;
+use fields::name::{is_same, name_size};
 use fields::refusal::Fault;
 use mesh::declaration::mesh_name;
 
@@ -48,7 +48,7 @@ pub fn is_base_mesh(table: &[u32], row: usize) -> bool
 fn has_name(s: &[u8], name: &[u8]) -> bool
     ensures { result ≡ has_name s.now name.now }
 {
-    name_size(s, 0).is_ok() && mesh_name(s) == name
+    name_size(s, 0).is_ok() && is_same(mesh_name(s), name)
 }
 
 // Kept: file, table and row as parameters, since the promises of `declaration_of` and of what it calls name each.

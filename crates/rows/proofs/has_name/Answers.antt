@@ -6,7 +6,6 @@ use Rattle.std.specs.Prelude.{Result, Ok, Err}
 use Rattle.std.specs.Result.{is_ok}
 use Rattle.fields.specs.Judged.{given}
 use Rattle.fields.specs.declared.refusal.Refusal.{Refusal}
-use Rattle.fields.proofs.Names.{same_pointwise}
 use Rattle.rows.specs.Rows.{where_named, has_name}
 use Rattle.rows.proofs.has_name.Goals as goal
 
@@ -21,7 +20,7 @@ unnamed (Err e) test q = refl
 
 pub returns-then-is_ok : goal.returns-then-is_ok
 unfolding has_name
-returns-then-is_ok c = rw (← c.name_size.ensures, named c.name_size.result _ (sym c.is_ok.ensures.value ∙ c.if-is_ok.true), c.eq.ensures, c.mesh_name.ensures) (sym (same_pointwise _ _))
+returns-then-is_ok c = rw (← c.name_size.ensures, named c.name_size.result _ (sym c.is_ok.ensures.value ∙ c.if-is_ok.true), c.is_same.ensures, c.mesh_name.ensures)
 
 pub returns-else-is_ok : goal.returns-else-is_ok
 unfolding has_name
