@@ -1,129 +1,76 @@
--- The match is a tree of comparisons: numbers told one by one, and ranges of so many numbers from one on but for those. The definition is
--- computed on each.
-use Prim.Native.Nat.{ℕ, ◌+◌, ◌-◌, ◌≤◌, ◌<◌}
-use mathlib.Core.List.{List, [], ◌∷◌}
-use mathlib.Core.Bool.{true}
-use mathlib.Core.Path.{◌≡◌, refl}
+-- A set has a bit at each of the 256 last bytes of its class and at no other, as antt computes; the tests then follow the definition.
+use mathlib.Core.Path.{◌≡◌, refl, ap, ◌∙◌}
+use mathlib.Core.Bool.{Bool, true, false}
+use Prim.Native.Nat.{ℕ, ◌-◌, ◌/◌, ◌^◌, ◌%◌, ◌<◌}
 use native.Mathlib.Omega.{arith}
-use borrow.Author.Tests.{eq-eqb, ne_eqb, lt-ltb, le-ltb}
-use lib.Dec.{eqb}
+use borrow.Author.Rules.{rules}
+use borrow.Author.Tests.{eq-eqb, ne_eqb, eqb-true, ltb-false}
+use lib.Dec.{eqb, ltb}
+use Rattle.fields.specs.All.{all}
+use Rattle.fields.proofs.All.{all_at}
 use Rattle.fields.specs.Judged.{pick}
 use Rattle.blocks.specs.Kind.{header_type, known_types, class_of, kind_of}
+use Rattle.blocks.specs.declared.kind.Kind.{Kind}
 use Rattle.blocks.specs.declared.kind.Kind.TheVariants.{Declaration, Continuation, Unknown}
-use Rattle.blocks.proofs.Members.{OneOf, none_of, neither_of, all_are, between, value_of}
 use Rattle.blocks.proofs.kind.kind_of.Goals as goal
 
--- told one by one
-abbrev single : List ℕ
-single = 0x12 ∷ 0x14 ∷ 0x16 ∷ 0x31 ∷ 0x15 ∷ 0x5C ∷ []
+-- a set's bit at a last byte is that of the class
+abbrev agrees : ℕ → ℕ → ℕ → Bool
+agrees types class last = eqb (types / 2 ^ last % 2) (pick (eqb (class_of last) class) 1 0)
 
--- one of n numbers from `low` on, all of the class v, that is none of those told one by one
-ranged : (last v low n : ℕ) → (OneOf last 0x12 (0x14 ∷ 0x16 ∷ 0x31 ∷ []) → ⊥) → (OneOf last 0x15 (0x5C ∷ []) → ⊥)
-    → low ≤ last → last < low + n → all_are class_of v single low n ≡ true → v ≡ class_of last
-ranged last v low n a b =
-    between class_of v single low n last
-    (neither_of last (0x12 ∷ 0x14 ∷ 0x16 ∷ 0x31 ∷ []) (0x15 ∷ 0x5C ∷ []) (none_of last 0x12 (0x14 ∷ 0x16 ∷ 0x31 ∷ []) a) (none_of last 0x15 (0x5C ∷ []) b))
+bit_told : (t : Bool) → eqb (pick t 1 0) 1 ≡ t
+bit_told true = refl
+bit_told false = refl
 
--- the kind of a type of that class
-by_class : (block_type v : ℕ) → (block_type ≡ header_type → ⊥) → known_types ≤ block_type → v ≡ class_of (block_type - known_types)
-    → pick (eqb v 1) (Declaration block_type) (pick (eqb v 2) (Continuation block_type) Unknown) ≡ kind_of block_type
+module _ (block_type : ℕ) where
+  -- whether it is a known type of that class
+  abbrev of_class : ℕ → Bool
+  of_class class = pick (ltb block_type known_types) false (eqb (class_of (block_type - known_types)) class)
+
+  module _ (types class : ℕ) {t : Bool} (most : block_type < 2 ^ 32) (same : all (agrees types class) 256 ≡ true) where
+    above : (low : Bool) → ltb block_type known_types ≡ low → t ≡ pick low false (eqb (types / 2 ^ (block_type - known_types) % 2) 1)
+        → t ≡ pick low false (eqb (class_of (block_type - known_types)) class)
+    above true l e = e
+    above false l e =
+        let last : ℕ = block_type - known_types in
+        let bit = eqb-true _ _ (all_at (agrees types class) 256 last same (omega (arith, ltb-false block_type known_types l))) in
+        e ∙ ap (λ n. eqb n 1) bit ∙ bit_told (eqb (class_of last) class)
+
+    tells : t ≡ pick (ltb block_type known_types) false (eqb (types / 2 ^ (block_type - known_types) % 2) 1) → t ≡ of_class class
+    tells e = above (ltb block_type known_types) refl e
+
+  abbrev kind_by : Bool → Bool → Kind
+  kind_by d k = pick d (Declaration block_type) (pick k (Continuation block_type) Unknown)
+
+  low_unknown : (low d k : Bool) → kind_by (pick low false d) (pick low false k) ≡ pick low Unknown (kind_by d k)
+  low_unknown true d k = refl
+  low_unknown false d k = refl
+
+  kind_told : {d k : Bool} → (block_type ≡ header_type → ⊥) → d ≡ of_class 1 → k ≡ of_class 2 → kind_by d k ≡ kind_of block_type
+  unfolding kind_of
+  kind_told h p q = rw (ne_eqb block_type header_type h, p, q) (low_unknown (ltb block_type known_types) _ _)
+
+pub returns-in-4469589 : goal.returns-in-4469589
 unfolding kind_of
-by_class block_type v h k e = rw (ne_eqb block_type header_type h, le-ltb block_type known_types k, ← e)
-
-pub returns-then-block_type-eq-FILE_HEADER : goal.returns-then-block_type-eq-FILE_HEADER
-unfolding kind_of
-returns-then-block_type-eq-FILE_HEADER c = rw (eq-eqb _ _ c.if-block_type-eq-FILE_HEADER.true)
-
-pub returns-then-block_type-lt-KNOWN_TYPES : goal.returns-then-block_type-lt-KNOWN_TYPES
-unfolding kind_of
-returns-then-block_type-lt-KNOWN_TYPES c = rw (ne_eqb _ _ c.if-block_type-eq-FILE_HEADER.false, lt-ltb _ _ c.if-block_type-lt-KNOWN_TYPES.true)
+returns-in-4469589 c = rw (eq-eqb _ _ c.in-4469589.is)
 
 pub returns-in_default : goal.returns-in_default
 unfolding class_of
 returns-in_default c =
-    by_class c.args.block_type 0 c.if-block_type-eq-FILE_HEADER.false c.if-block_type-lt-KNOWN_TYPES.false
-    (ranged _ 0 0x00 33 c.in_default.in_default-own.rest.0.1 c.in_default.in_default-own.rest.1 (omega arith) (omega arith) refl)
+    let type = c.args.block_type in
+    let most = c.ranges.block_type.fits in
+    kind_told type (search rules) (tells type _ 1 most refl c.if-has.ensures) refl
 
 pub returns-in_default-2 : goal.returns-in_default-2
 unfolding class_of
 returns-in_default-2 c =
-    by_class c.args.block_type 0 c.if-block_type-eq-FILE_HEADER.false c.if-block_type-lt-KNOWN_TYPES.false
-    (ranged _ 0 0x25 17 c.in_default.in_default-own.rest.0.1 c.in_default.in_default-own.rest.1 (omega arith) (omega arith) refl)
+    let type = c.args.block_type in
+    let most = c.ranges.block_type.fits in
+    kind_told type (search rules) (tells type _ 1 most refl c.if-has.ensures) (tells type _ 2 most refl c.if-has-2.ensures)
 
 pub returns-in_default-3 : goal.returns-in_default-3
 unfolding class_of
 returns-in_default-3 c =
-    by_class c.args.block_type 0 c.if-block_type-eq-FILE_HEADER.false c.if-block_type-lt-KNOWN_TYPES.false
-    (ranged _ 0 0x38 3 c.in_default.in_default-own.rest.0.1 c.in_default.in_default-own.rest.1 (omega arith) (omega arith) refl)
-
-pub returns-in_default-4 : goal.returns-in_default-4
-unfolding class_of
-returns-in_default-4 c =
-    by_class c.args.block_type 0 c.if-block_type-eq-FILE_HEADER.false c.if-block_type-lt-KNOWN_TYPES.false
-    (ranged _ 0 0x3D 1 c.in_default.in_default-own.rest.0.1 c.in_default.in_default-own.rest.1 (omega arith) (omega arith) refl)
-
-pub returns-in_default-5 : goal.returns-in_default-5
-unfolding class_of
-returns-in_default-5 c =
-    by_class c.args.block_type 0 c.if-block_type-eq-FILE_HEADER.false c.if-block_type-lt-KNOWN_TYPES.false
-    (ranged _ 0 0x40 1 c.in_default.in_default-own.rest.0.1 c.in_default.in_default-own.rest.1 (omega arith) (omega arith) refl)
-
-pub returns-in_default-6 : goal.returns-in_default-6
-unfolding class_of
-returns-in_default-6 c =
-    by_class c.args.block_type 0 c.if-block_type-eq-FILE_HEADER.false c.if-block_type-lt-KNOWN_TYPES.false
-    (ranged _ 0 0x47 10 c.in_default.in_default-own.rest.0.1 c.in_default.in_default-own.rest.1 (omega arith) (omega arith) refl)
-
-pub returns-in_default-7 : goal.returns-in_default-7
-unfolding class_of
-returns-in_default-7 c =
-    by_class c.args.block_type 0 c.if-block_type-eq-FILE_HEADER.false c.if-block_type-lt-KNOWN_TYPES.false
-    (ranged _ 0 0x57 169 c.in_default.in_default-own.rest.0.1 c.in_default.in_default-own.rest.1 (omega arith) (omega arith) refl)
-
-pub returns-in-21 : goal.returns-in-21
-unfolding class_of
-returns-in-21 c =
-    by_class c.args.block_type 2 c.if-block_type-eq-FILE_HEADER.false c.if-block_type-lt-KNOWN_TYPES.false
-    (value_of class_of 2 _ 0x15 (0x5C ∷ []) c.in-21.is refl)
-
-pub returns-in-21-2 : goal.returns-in-21-2
-unfolding class_of
-returns-in-21-2 c =
-    by_class c.args.block_type 2 c.if-block_type-eq-FILE_HEADER.false c.if-block_type-lt-KNOWN_TYPES.false
-    (ranged _ 2 0x3B 2 c.in-21.in_default-own.rest.0.1 c.in-21.in_default-own.rest.1 (omega arith) (omega arith) refl)
-
-pub returns-in-21-3 : goal.returns-in-21-3
-unfolding class_of
-returns-in-21-3 c =
-    by_class c.args.block_type 2 c.if-block_type-eq-FILE_HEADER.false c.if-block_type-lt-KNOWN_TYPES.false
-    (ranged _ 2 0x3E 2 c.in-21.in_default-own.rest.0.1 c.in-21.in_default-own.rest.1 (omega arith) (omega arith) refl)
-
-pub returns-in-18 : goal.returns-in-18
-unfolding class_of
-returns-in-18 c =
-    by_class c.args.block_type 1 c.if-block_type-eq-FILE_HEADER.false c.if-block_type-lt-KNOWN_TYPES.false
-    (value_of class_of 1 _ 0x12 (0x14 ∷ 0x16 ∷ 0x31 ∷ []) c.in-18.in-18-own.keys1 refl)
-
-pub returns-in-18-2 : goal.returns-in-18-2
-unfolding class_of
-returns-in-18-2 c =
-    by_class c.args.block_type 1 c.if-block_type-eq-FILE_HEADER.false c.if-block_type-lt-KNOWN_TYPES.false
-    (ranged _ 1 0x21 4 c.in-18.in_default-own.rest.0.1 c.in-18.in_default-own.rest.1 (omega arith) (omega arith) refl)
-
-pub returns-in-18-3 : goal.returns-in-18-3
-unfolding class_of
-returns-in-18-3 c =
-    by_class c.args.block_type 1 c.if-block_type-eq-FILE_HEADER.false c.if-block_type-lt-KNOWN_TYPES.false
-    (ranged _ 1 0x36 2 c.in-18.in_default-own.rest.0.1 c.in-18.in_default-own.rest.1 (omega arith) (omega arith) refl)
-
-pub returns-in-18-4 : goal.returns-in-18-4
-unfolding class_of
-returns-in-18-4 c =
-    by_class c.args.block_type 1 c.if-block_type-eq-FILE_HEADER.false c.if-block_type-lt-KNOWN_TYPES.false
-    (ranged _ 1 0x41 6 c.in-18.in_default-own.rest.0.1 c.in-18.in_default-own.rest.1 (omega arith) (omega arith) refl)
-
-pub returns-in-18-5 : goal.returns-in-18-5
-unfolding class_of
-returns-in-18-5 c =
-    by_class c.args.block_type 1 c.if-block_type-eq-FILE_HEADER.false c.if-block_type-lt-KNOWN_TYPES.false
-    (ranged _ 1 0x51 6 c.in-18.in_default-own.rest.0.1 c.in-18.in_default-own.rest.1 (omega arith) (omega arith) refl)
+    let type = c.args.block_type in
+    let most = c.ranges.block_type.fits in
+    kind_told type (search rules) (tells type _ 1 most refl c.if-has.ensures) (tells type _ 2 most refl c.if-has-2.ensures)
