@@ -30,7 +30,7 @@ pub enum Kind {
     Unknown,
 }
 
-// Whether a type is a known one whose bit is set.
+// Whether a type is KNOWN_TYPES and a last byte whose bit is set.
 fn has(types: u128, block_type: u32) -> bool
     ensures { result ≡ pick (ltb block_type known_types) false (eqb (types / 2 ^ (block_type - known_types) % 2) 1) }
 {
